@@ -3,6 +3,7 @@
 pub mod answers;
 pub mod book;
 pub mod books;
+pub mod compile;
 pub mod ffi;
 pub mod form;
 pub mod worked;
@@ -14,5 +15,10 @@ mod tests {
     #[test]
     fn worked_forms() {
         worked::check_form(form::form);
+    }
+
+    #[test]
+    fn worked_plans() {
+        worked::check_compile(compile::compile);
     }
 }

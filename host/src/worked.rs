@@ -53,15 +53,107 @@ pub fn harmless_recursion() -> Book {
     )
 }
 
-/// The books that have the form of a book.
-fn well_formed() -> Vec<Book> {
-    vec![rinse(), doubling(), shared_kind(), harmless_recursion()]
+/// The first conflict book with start 0.
+pub fn shared_kind_aside() -> Book {
+    Book {
+        start: 0,
+        ..shared_kind()
+    }
+}
+
+/// A single node.
+pub fn lone(form: u16) -> Book {
+    Book::ending(1, &[(form, 0, 0)])
+}
+
+/// The rows of the rinse book's plan.
+const RINSE_ROWS: [[u8; 4]; 9] = [
+    [1, 0, 0, 0],
+    [0, 1, 0, 0],
+    [0, 0, 1, 0],
+    [0, 0, 0, 1],
+    [0, 2, 0, 1],
+    [0, 3, 0, 0],
+    [0, 2, 0, 1],
+    [0, 3, 4, 0],
+    [3, 0, 0, 0],
+];
+
+/// Each worked book with the compiler's answer in ample room: number, place, kind, size.
+fn compile_cases() -> Vec<(Book, [u32; 4])> {
+    let both_nullable = [(EMPTY, 0, 0), (EMPTY, 0, 0), (EITHER, 0, 1)];
+    let not_after = [(TOKEN, 0, 0), (EMPTY, 0, 0), (EITHER, 0, 1), (THEN, 2, 0)];
+    let recursion = [
+        (REF, 4, 0),
+        (TOKEN, 0, 0),
+        (THEN, 0, 1),
+        (TOKEN, 1, 0),
+        (EITHER, 2, 3),
+    ];
+    vec![
+        (rinse(), [DONE, 0, 0, 114]),
+        (shared_kind(), [CONFLICT, 2, 0, 0]),
+        (
+            Book::ending(1, &both_nullable),
+            [CONFLICT, 2, BOTH_NULLABLE, 0],
+        ),
+        (Book::ending(1, &not_after), [CONFLICT, 3, 0, 0]),
+        (Book::ending(2, &recursion), [CONFLICT, 4, 1, 0]),
+        (harmless_recursion(), [DONE, 0, 0, 64]),
+        (lone(FAIL), [BARREN, 0, 0, 0]),
+        (lone(REF), [BARREN, 0, 0, 0]),
+        (lone(EMPTY), [DONE, 0, 0, 32]),
+        (doubling(), [DONE, 0, 0, 4_120]),
+        (shared_kind_aside(), [DONE, 0, 0, 48]),
+    ]
+}
+
+/// The bytes of the rinse book's plan.
+fn rinse_plan() -> Vec<u8> {
+    let contents = [3, 1, 20, 4, 2, 24, 54, 3, 78, 36];
+    let mut plan = bytes_of(&contents);
+    plan.extend(&rinse().bytes()[14..]);
+    plan.extend(RINSE_ROWS.concat());
+    plan
+}
+
+/// Checks an implementation of the compiler.
+pub fn check_compile(compile: impl Fn(&[u8], &mut [u8]) -> Compiled) {
+    for (book, [number, place, kind, size]) in compile_cases() {
+        let answer = Compiled {
+            number,
+            place,
+            kind,
+            size,
+        };
+        let mut plan = vec![0xA5; 5_000];
+        assert_eq!(compile(&book.bytes(), &mut plan), answer, "of {book:?}");
+        assert!(plan[size as usize..].iter().all(|&byte| byte == 0));
+        if number == DONE {
+            check_plan_room(&book, size, &compile);
+        }
+    }
+    let mut plan = vec![0xA5; 114];
+    compile(&rinse().bytes(), &mut plan);
+    assert_eq!(plan, rinse_plan());
+}
+
+/// Checks that a plan of this size needs just its room.
+fn check_plan_room(book: &Book, size: u32, compile: impl Fn(&[u8], &mut [u8]) -> Compiled) {
+    for (length, number) in [(size, DONE), (size - 1, PLAN_ROOM), (0, PLAN_ROOM)] {
+        let mut plan = vec![0xA5; length as usize];
+        let answer = compile(&book.bytes(), &mut plan);
+        assert_eq!((answer.number, answer.place), (number, 0), "of {book:?}");
+        assert_eq!((answer.kind, answer.size), (0, size), "of {book:?}");
+        let written = plan.iter().any(|&byte| byte != 0);
+        assert_eq!(written, number == DONE, "of {book:?}");
+    }
 }
 
 /// Checks an implementation of the form test.
 pub fn check_form(form: impl Fn(&[u8]) -> Formed) {
     assert_eq!(rinse().bytes()[..BOOK_NODES], RINSE_HEAD);
-    for book in well_formed() {
+    for (book, _) in compile_cases() {
         let answer = form(&book.bytes());
         assert_eq!((answer.number, answer.place), (DONE, 0), "of {book:?}");
     }

@@ -2,5 +2,6 @@
 //!
 //! Each call stands in its own module and its wrapper is inlined, so that a test links only the calls that it makes.
 
+pub mod compile;
 pub mod form;
 pub mod lent;
