@@ -9,7 +9,7 @@ use host::books::shapes::{any_book, large_book, likely_book};
 use host::compile::{compile, plan_of};
 use host::ffi;
 use host::ffi::lent::{Edge, Lent};
-use host::read::{read, MOST_EVENTS};
+use host::read::{cells_of, read, MOST_EVENTS};
 use host::worked;
 
 /// What the buffers hold before a call.
@@ -184,41 +184,43 @@ fn every_number_of_slots() {
 }
 
 #[test]
-fn single_events_at_the_last_visit() {
+fn walks_of_as_many_visits_as_nodes() {
     let mut pair = Pair::new(600, 100_000);
-    for count in 2..=40u16 {
+    for count in 2..=40 {
         for last in [FAIL, TOKEN, REF, THEN] {
-            let mut nodes: Vec<_> = (1..count).map(|to| (REF, to, 0)).collect();
-            nodes.push((last, 0, 0));
-            let book = Book {
-                start: 0,
-                ..Book::ending(1, &nodes)
-            };
-            let mut plan = plan_of(&book);
-            let rows = plan.len() - 2 * usize::from(count);
-            for row in plan[rows..].chunks_exact_mut(2) {
-                row[0] = 2;
-            }
-            let cells: &[u8] = match last {
-                FAIL => &[0],
-                TOKEN => &[0, 1],
-                REF => &[0, 2],
-                _ => &[0, 3, 4],
-            };
-            for &cell in cells {
-                let at = plan.len() - 2;
-                plan[at] = cell;
-                for slots in 0..3 {
-                    for run in [&[] as &[u8], &[0], &[0, 0]] {
-                        pair.compare(&plan, run, slots, 50, Edge::End);
-                        pair.compare(&plan, run, slots, 2, Edge::Begin);
+            for &cell in cells_of(last) {
+                for start in [0, count - 1] {
+                    let plan = circle(count, start, last, cell);
+                    for slots in 0..3 {
+                        for run in [&[] as &[u8], &[0], &[0, 0]] {
+                            pair.compare(&plan, run, slots, 50, Edge::End);
+                            pair.compare(&plan, run, slots, 2, Edge::Begin);
+                        }
                     }
                 }
             }
         }
     }
-    pair.tally
-        .expect(&[DONE, DEEP, UNEXPECTED, END, RUNAWAY], 30);
+    let met = [DONE, DEEP, UNEXPECTED, END, RUNAWAY];
+    pair.tally.expect(&met, 30);
+}
+
+/// A plan of refs, each to the next, up to a last node of this type and cell, which leads back.
+fn circle(count: u16, start: u16, last: u16, cell: u8) -> Vec<u8> {
+    let mut nodes: Vec<_> = (1..count).map(|to| (REF, to, 0)).collect();
+    nodes.push((last, 0, 0));
+    let book = Book {
+        start,
+        ..Book::ending(1, &nodes)
+    };
+    let mut plan = plan_of(&book);
+    let rows = plan.len() - 2 * usize::from(count);
+    for row in plan[rows..].chunks_exact_mut(2) {
+        row[0] = 2;
+    }
+    let at = plan.len() - 2;
+    plan[at] = cell;
+    plan
 }
 
 /// A book of nested pairs of events 0 and 1.
