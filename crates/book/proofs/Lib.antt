@@ -1,0 +1,2 @@
+mod Types
+pub mod FirstBad
