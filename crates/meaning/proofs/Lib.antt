@@ -1,2 +1,5 @@
 -- What the rules' facts say of runs, and that reading keeps to what a book means.
 pub mod Facts
+pub mod Parts
+pub mod Walk
+pub mod Clear

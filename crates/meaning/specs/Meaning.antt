@@ -43,25 +43,26 @@ module _ {node : ℕ → Node} where
   unfoldable pub tree : {top : Node} {xs : List ℕ} → ℕ → Derives node top xs → List ℕ
   tree {xs = xs} n d = partRecords n xs (parts d)
 
--- a whole derivation with nothing collapsed: the type of each node, which side an either took, and both parts of a then
+-- a whole derivation with nothing collapsed: each node by its number, the kind of a token, which side an either took, and both parts of
+-- a then
 pub data Full : Type 0 where
-  full-empty : Full
-  full-token : ℕ → Full
-  full-left : Full → Full
-  full-right : Full → Full
-  full-then : Full → Full → Full
-  full-tagged : Full → Full
-  full-ref : Full → Full
+  full-empty : ℕ → Full
+  full-token : ℕ → ℕ → Full
+  full-left : ℕ → Full → Full
+  full-right : ℕ → Full → Full
+  full-then : ℕ → Full → Full → Full
+  full-tagged : ℕ → Full → Full
+  full-ref : ℕ → Full → Full
 
--- the whole derivation that a derivation is
-unfoldable pub full : {node : ℕ → Node} {top : Node} {xs : List ℕ} → Derives node top xs → Full
-full d-empty = full-empty
-full (d-token {k}) = full-token k
-full (d-left d) = full-left (full d)
-full (d-right d) = full-right (full d)
-full (d-then d e) = full-then (full d) (full e)
-full (d-tagged d) = full-tagged (full d)
-full (d-ref d) = full-ref (full d)
+-- the whole derivation that a derivation from a node of this number is
+unfoldable pub full : {node : ℕ → Node} {top : Node} {xs : List ℕ} → ℕ → Derives node top xs → Full
+full n d-empty = full-empty n
+full n (d-token {k}) = full-token n k
+full n (d-left {l} d) = full-left n (full l d)
+full n (d-right {r = r} d) = full-right n (full r d)
+full n (d-then {l} {r} d e) = full-then n (full l d) (full r e)
+full n (d-tagged {l} d) = full-tagged n (full l d)
+full n (d-ref {l} d) = full-ref n (full l d)
 
 -- a run is lawful if the start derives it
 abbrev pub Lawful : Book → List ℕ → Type 0
@@ -103,6 +104,15 @@ Means b xs (unknown-at i held) = Refuses b xs i × (b .kinds ≤ getD xs i 0)
 Means b xs (unexpected-at i held) = Refuses b xs i × (getD xs i 0 < b .kinds)
 Means b xs (end-at i held) = Ends b xs i
 Means b xs (runaway-at i) = ⊥
+
+-- an answer without the parts held that a refusal carries
+unfoldable pub told : Answer → Answer
+told (accepted records) = accepted records
+told (deep-at i) = deep-at i
+told (unknown-at i held) = unknown-at i []
+told (unexpected-at i held) = unexpected-at i []
+told (end-at i held) = end-at i []
+told (runaway-at i) = runaway-at i
 
 -- the plan of a book by marks for its nodes, with slots free by a test of how many parts are held
 abbrev pub planFor : Book → Marks → (ℕ → Bool) → Plan
