@@ -3,3 +3,5 @@ pub mod Facts
 pub mod Parts
 pub mod Walk
 pub mod Clear
+pub mod Machine
+pub mod Size
