@@ -5,3 +5,5 @@ pub mod Walk
 pub mod Clear
 pub mod Machine
 pub mod Size
+pub mod Orderly
+pub mod Event

@@ -12,7 +12,7 @@ use Rattle.rules.specs.Rules.{First, f-token, f-left, f-right, f-hold, f-skip, 
 use Rattle.rules.specs.Rules.{either-left, either-right, then-left, then-right, tagged-left, ref-left}
 use Rattle.plan.specs.Cells.{Marks, Marked, cellOf}
 use Rattle.plan.specs.Running.{Plan, emptied, Step, taken, pick, noted, visit, walk}
-use Rattle.meaning.specs.Meaning.{planFor}
+use Rattle.meaning.specs.Meaning.{freePlan}
 use Rattle.meaning.proofs.Facts.{nullable-first-snf}
 use Rattle.meaning.proofs.Walk.{after, recorded, size}
 use Rattle.meaning.proofs.Clear.{Clear, clear-child, clear-here}
@@ -28,10 +28,6 @@ some-way true c d = (c, refl)
 some-way false c d = (d, refl)
 
 module _ (b : Book) (marks : Marks) (marked : Marked (b .node) marks) (k : ℕ) where
-  -- the free machine
-  abbrev free-plan : Plan
-  free-plan = planFor b marks (λ n. true)
-
   marked-first : {n : ℕ} {top : Node} → b .node n ≡ top → First (b .node) top k → marks .first n k ≡ true
   marked-first {n} e d = marked .first-is n k .1 (rw e d)
 
@@ -40,17 +36,17 @@ module _ (b : Book) (marks : Marks) (marked : Marked (b .node) marks) (k : ℕ) 
 
   -- one visit, by the node and its cell
   going : (extra left n : ℕ) (top : Node) (cell : ℕ) (held : List ℕ) → b .node n ≡ top → cellOf marks k n top ≡ cell
-      → walk free-plan k (extra + suc left) n held
-        ≡ noted n (visit cell (λ m h. walk free-plan k (extra + left) m h) (λ m. true) (leftOf top) (rightOf top) held)
+      → walk (freePlan b marks) k (extra + suc left) n held
+        ≡ noted n (visit cell (λ m h. walk (freePlan b marks) k (extra + left) m h) (λ m. true) (leftOf top) (rightOf top) held)
   unfolding walk
   going extra left n top cell held e c =
       rw (add-suc extra left)
       λ i. noted n
-        (visit (((ap (cellOf marks k n) e) ∙ c) i) (λ m h. walk free-plan k (extra + left) m h) (λ m. true) (leftOf (e i)) (rightOf (e i)) held)
+        (visit (((ap (cellOf marks k n) e) ∙ c) i) (λ m h. walk (freePlan b marks) k (extra + left) m h) (λ m. true) (leftOf (e i)) (rightOf (e i)) held)
 
   -- the walk goes along any derivation
   pub walk-is : {top : Node} (extra n : ℕ) (d : First (b .node) top k) (held : List ℕ) → b .node n ≡ top → Clear (b .node) top
-      → walk free-plan k (extra + size d) n held ≡ taken (after d held) (recorded n d)
+      → walk (freePlan b marks) k (extra + size d) n held ≡ taken (after d held) (recorded n d)
   unfolding size after recorded cellOf visit noted
   walk-is extra n (f-token {k}) held e cl =
       let mark = marked-first e f-token in

@@ -2,7 +2,7 @@
 -- reading means.
 use Prim.Native.Nat.{ℕ, suc, _<_, _≤_}
 use mathlib.Core.Path.{_≡_}
-use mathlib.Core.Bool.{Bool}
+use mathlib.Core.Bool.{Bool, true}
 use mathlib.Core.List.{List, [], _∷_, _++_}
 use lib.ListN.{length, take, getD}
 use Rattle.book.specs.Book.{Book, WellFormed, leftOf, rightOf}
@@ -126,3 +126,7 @@ planFor b marks free = record {
   null = marks .null;
   free = free;
 }
+
+-- the same with a slot always free
+abbrev pub freePlan : Book → Marks → Plan
+freePlan b marks = planFor b marks (λ n. true)
