@@ -19,23 +19,26 @@ use Rattle.meaning.proofs.Machine.{walk-is, cell-first, cell-other}
 use Rattle.meaning.proofs.Size.{size-below}
 use Rattle.meaning.proofs.Orderly.{Apart, Orderly, orderly-end, orderly-part, held-nothing, walk-orderly}
 
+-- an event taken: the parts then held are in order and derive exactly what stood behind the event
+pub record Took (node : ℕ → Node) (k : ℕ) (held then records : List ℕ) : Type 0 where
+  pub orderly : Orderly node then
+  pub sound : (zs ps : List ℕ) → Held node then zs ps → Held node held (k ∷ zs) (records ++ ps)
+  pub complete : (zs ps : List ℕ) → Held node held (k ∷ zs) ps → (qs : List ℕ) × Held node then zs qs
+
 -- an event of a kind, with these parts held, by its result
 pub data Event (node : ℕ → Node) (k : ℕ) (held : List ℕ) : Step → Type 0 where
-  event-taken : {then rs : List ℕ} → Orderly node then
-      → ((zs ps : List ℕ) → Held node then zs ps → Held node held (k ∷ zs) (rs ++ ps))
-      → ((zs ps : List ℕ) → Held node held (k ∷ zs) ps → (qs : List ℕ) × Held node then zs qs)
-      → Event node k held (taken then rs)
+  event-taken : {then records : List ℕ} → Took node k held then records → Event node k held (taken then records)
   event-refused : ((zs ps : List ℕ) → Held node held (k ∷ zs) ps → ⊥) → Event node k held refused
 
 -- a nullable part without the kind in FIRST is passed
 passed : {node : ℕ → Node} {k n : ℕ} {held : List ℕ} {s : Step} → Nullable node (node n) → (First node (node n) k → ⊥) → Event node k held s
     → Event node k (n ∷ held) (noted (emptied n) s)
 unfolding noted
-passed {node} {k} {n} {held} a f (event-taken {then} o sound complete) =
-    event-taken o (λ zs ps h. held-none a (sound zs ps h)) go
+passed {node} {k} {n} {held} a f (event-taken {then} t) =
+    event-taken (record { orderly = t .orderly; sound = λ zs ps h. held-none a (t .sound zs ps h); complete = go })
   where
     go : (zs ps : List ℕ) → Held node (n ∷ held) (k ∷ zs) ps → (qs : List ℕ) × Held node then zs qs
-    go zs ps (held-none c h) = complete zs _ h
+    go zs ps (held-none c h) = t .complete zs _ h
     go zs ps (held-some p h) = absurd (f (part-first p))
 passed {node} {k} {n} {held} a f (event-refused g) = event-refused go
   where
@@ -63,9 +66,12 @@ module _ (b : Book) (formed : WellFormed b) (marks : Marks) (marked : Marked (b 
   entered : {n : ℕ} {held : List ℕ} (d : First (b .node) (b .node n) k) → Clear (b .node) (b .node n) → Apart (b .node) (b .node n) held
       → Orderly (b .node) held → Event (b .node) k (n ∷ held) (taken (after d held) (recorded n d))
   entered {n} {held} d cl a o =
-      event-taken (walk-orderly d held cl a o)
-        (λ zs ps h. let t = walk-sound n d held h in held-some (t .part) (t .behind))
-        go
+      event-taken
+        (record
+          { orderly = walk-orderly d held cl a o
+          ; sound = λ zs ps h. let t = walk-sound n d held h in held-some (t .part) (t .behind)
+          ; complete = go
+          })
     where
       go : (zs ps : List ℕ) → Held (b .node) (n ∷ held) (k ∷ zs) ps → (qs : List ℕ) × Held (b .node) (after d held) zs qs
       go zs ps (held-none c h) = absurd (a .none k zs _ (nullable-first-snf c d) h)

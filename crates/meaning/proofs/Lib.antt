@@ -7,3 +7,4 @@ pub mod Machine
 pub mod Size
 pub mod Orderly
 pub mod Event
+pub mod Run
