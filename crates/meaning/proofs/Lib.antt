@@ -8,3 +8,4 @@ pub mod Size
 pub mod Orderly
 pub mod Event
 pub mod Run
+pub mod Unique
