@@ -9,3 +9,4 @@ pub mod Orderly
 pub mod Event
 pub mod Run
 pub mod Unique
+pub mod Verdict

@@ -96,14 +96,13 @@ pub record Ends (b : Book) (xs : List ℕ) (i : ℕ) : Type 0 where
   pub agrees : Begins b xs
   pub unlawful : Lawful b xs → ⊥
 
--- what an answer to a run means; the parts held that a refusal carries only serve `expected`
-abbrev pub Means : Book → List ℕ → Answer → Type 0
-Means b xs (accepted records) = Accepts b xs records
-Means b xs (deep-at i) = ⊥
-Means b xs (unknown-at i held) = Refuses b xs i × (b .kinds ≤ getD xs i 0)
-Means b xs (unexpected-at i held) = Refuses b xs i × (getD xs i 0 < b .kinds)
-Means b xs (end-at i held) = Ends b xs i
-Means b xs (runaway-at i) = ⊥
+-- what an answer to a run means: accepted, with the tree of a derivation; refused at an event, of a kind that the book has or not; at an
+-- end too soon; and no other. The parts held that a refusal carries only serve `expected`
+pub data Means (b : Book) (xs : List ℕ) : Answer → Type 0 where
+  means-accepted : {records : List ℕ} → Accepts b xs records → Means b xs (accepted records)
+  means-unexpected : {i : ℕ} {held : List ℕ} → Refuses b xs i → getD xs i 0 < b .kinds → Means b xs (unexpected-at i held)
+  means-unknown : {i : ℕ} {held : List ℕ} → Refuses b xs i → b .kinds ≤ getD xs i 0 → Means b xs (unknown-at i held)
+  means-end : {i : ℕ} {held : List ℕ} → Ends b xs i → Means b xs (end-at i held)
 
 -- an answer without the parts held that a refusal carries
 unfoldable pub told : Answer → Answer
