@@ -67,11 +67,11 @@ module _ (b : Book) (formed : WellFormed b) (marks : Marks) (marked : Marked (b 
       → Orderly (b .node) held → Event (b .node) k (n ∷ held) (taken (after d held) (recorded n d))
   entered {n} {held} d cl a o =
       event-taken
-        (record
-          { orderly = walk-orderly d held cl a o
-          ; sound = λ zs ps h. let t = walk-sound n d held h in held-some (t .part) (t .behind)
-          ; complete = go
-          })
+      (record {
+        orderly = walk-orderly d held cl a o;
+        sound = λ zs ps h. let t = walk-sound n d held h in held-some (t .part) (t .behind);
+        complete = go;
+      })
     where
       go : (zs ps : List ℕ) → Held (b .node) (n ∷ held) (k ∷ zs) ps → (qs : List ℕ) × Held (b .node) (after d held) zs qs
       go zs ps (held-none c h) = absurd (a .none k zs _ (nullable-first-snf c d) h)

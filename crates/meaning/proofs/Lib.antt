@@ -10,3 +10,4 @@ pub mod Event
 pub mod Run
 pub mod Unique
 pub mod Verdict
+pub mod Theorem

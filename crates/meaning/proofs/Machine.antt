@@ -37,12 +37,12 @@ module _ (b : Book) (marks : Marks) (marked : Marked (b .node) marks) (k : ℕ) 
   -- one visit, by the node and its cell
   going : (extra left n : ℕ) (top : Node) (cell : ℕ) (held : List ℕ) → b .node n ≡ top → cellOf marks k n top ≡ cell
       → walk (freePlan b marks) k (extra + suc left) n held
-        ≡ noted n (visit cell (λ m h. walk (freePlan b marks) k (extra + left) m h) (λ m. true) (leftOf top) (rightOf top) held)
+      ≡ noted n (visit cell (λ m h. walk (freePlan b marks) k (extra + left) m h) (λ m. true) (leftOf top) (rightOf top) held)
   unfolding walk
   going extra left n top cell held e c =
       rw (add-suc extra left)
       λ i. noted n
-        (visit (((ap (cellOf marks k n) e) ∙ c) i) (λ m h. walk (freePlan b marks) k (extra + left) m h) (λ m. true) (leftOf (e i)) (rightOf (e i)) held)
+      (visit (((ap (cellOf marks k n) e) ∙ c) i) (λ m h. walk (freePlan b marks) k (extra + left) m h) (λ m. true) (leftOf (e i)) (rightOf (e i)) held)
 
   -- the walk goes along any derivation
   pub walk-is : {top : Node} (extra n : ℕ) (d : First (b .node) top k) (held : List ℕ) → b .node n ≡ top → Clear (b .node) top

@@ -49,7 +49,7 @@ module _ {node : ℕ → Node} where
   walk-orderly (f-right d) held cl a o = walk-orderly d held (clear-child cl either-right) (apart-as (λ k. s-right) a) o
   walk-orderly (f-hold {r = r} d p) held cl a o =
       walk-orderly d (r ∷ held) (clear-child cl then-left) (apart-left cl a)
-        (orderly-part p (clear-child cl then-right) (apart-as (λ k. s-then-right (first-productive d)) a) o)
+      (orderly-part p (clear-child cl then-right) (apart-as (λ k. s-then-right (first-productive d)) a) o)
   walk-orderly (f-skip n d) held cl a o =
       walk-orderly d held (clear-child cl then-right) (apart-as (λ k. s-then-right (nullable-productive n)) a) o
   walk-orderly (f-tagged d) held cl a o = walk-orderly d held (clear-child cl tagged-left) (apart-as (λ k. s-tagged) a) o

@@ -93,23 +93,23 @@ module _ {node : ℕ → Node} where
       record { run = s .run; derivation = d-right (s .derivation); run-is = s .run-is; records-are = ap (λ (x : List ℕ). n ∷ x) (s .records-are) }
   part-derives {n} {qs = qs} (part-alone {r = r} {ys = ys} p a) =
       let s = part-derives p in
-      record
-        { run = s .run ++ []
-        ; derivation = d-then (s .derivation) (nullable-derives-empty a)
-        ; run-is = rw append-nil (s .run-is)
-        ; records-are = rw (append-assoc (parts (s .derivation)) (emptied r ∷ []) qs) (ap (λ (x : List ℕ). n ∷ x) (s .records-are))
-        }
+      record {
+        run = s .run ++ [];
+        derivation = d-then (s .derivation) (nullable-derives-empty a);
+        run-is = rw append-nil (s .run-is);
+        records-are = rw (append-assoc (parts (s .derivation)) (emptied r ∷ []) qs) (ap (λ (x : List ℕ). n ∷ x) (s .records-are));
+      }
   part-derives {n} {ys = ys} {qs = qs} (part-both {l = l} {r} {j = j} p q) =
       let s = part-derives p in
       let t = part-derives q in
-      record
-        { run = s .run ++ (j ∷ t .run)
-        ; derivation = d-then (s .derivation) (t .derivation)
-        ; run-is = rw (append-assoc (s .run) (j ∷ t .run) ys) (s .run-is ∙ ap (λ (x : List ℕ). s .run ++ (j ∷ x)) (t .run-is))
-        ; records-are =
+      record {
+        run = s .run ++ (j ∷ t .run);
+        derivation = d-then (s .derivation) (t .derivation);
+        run-is = rw (append-assoc (s .run) (j ∷ t .run) ys) (s .run-is ∙ ap (λ (x : List ℕ). s .run ++ (j ∷ x)) (t .run-is));
+        records-are =
             rw (append-assoc (parts (s .derivation)) (r ∷ parts (t .derivation)) qs)
-            (ap (λ (x : List ℕ). n ∷ x) (s .records-are ∙ ap (λ (x : List ℕ). l ∷ (parts (s .derivation) ++ x)) (t .records-are)))
-        }
+            (ap (λ (x : List ℕ). n ∷ x) (s .records-are ∙ ap (λ (x : List ℕ). l ∷ (parts (s .derivation) ++ x)) (t .records-are)));
+      }
   part-derives {n} (part-skip {l = l} a p) =
       let s = part-derives p in
       record { run = s .run; derivation = d-then (nullable-derives-empty a) (s .derivation); run-is = s .run-is; records-are = ap (λ (x : List ℕ). n ∷ emptied l ∷ x) (s .records-are) }

@@ -70,11 +70,11 @@ module _ {node : ℕ → Node} where
   -- one event taken before
   parted-taken : {k j : ℕ} {held then xs before behind rs : List ℕ} → Took node k held then rs → Parted node then xs before j behind
       → Parted node held (k ∷ xs) (k ∷ before) j behind
-  parted-taken {k} {j} {before = before} took p = record
-    { run-is = ap (λ (x : List ℕ). k ∷ x) (p .run-is)
-    ; agrees = let t = p .agrees in (t .0, _, took .sound _ _ (t .2))
-    ; differs = λ zs ps h. let t = took .complete (before ++ j ∷ zs) ps h in p .differs zs (t .0) (t .1)
-    }
+  parted-taken {k} {j} {before = before} took p = record {
+    run-is = ap (λ (x : List ℕ). k ∷ x) (p .run-is);
+    agrees = let t = p .agrees in (t .0, _, took .sound _ _ (t .2));
+    differs = λ zs ps h. let t = took .complete (before ++ j ∷ zs) ps h in p .differs zs (t .0) (t .1);
+  }
 
   run-taken : {kinds k at : ℕ} {held then xs rs : List ℕ} {a : Answer} → Took node k held then rs → Run node kinds then xs (suc at) a
       → Run node kinds held (k ∷ xs) at (logged rs a)
@@ -84,11 +84,11 @@ module _ {node : ℕ → Node} where
   run-taken took (run-unknown {i} p h e) = run-unknown {i = i} (parted-taken took p) h (omega arith)
   run-taken {xs = xs} took (run-end {i} p e) =
       run-end {i = i}
-        (record
-          { agrees = let t = p .agrees in (t .0, _, took .sound _ _ (t .2))
-          ; differs = λ ps h. let t = took .complete xs ps h in p .differs (t .0) (t .1)
-          })
-        (omega arith)
+      (record {
+        agrees = let t = p .agrees in (t .0, _, took .sound _ _ (t .2));
+        differs = λ ps h. let t = took .complete xs ps h in p .differs (t .0) (t .1);
+      })
+      (omega arith)
 
   -- refused at once
   parted-here : {k : ℕ} {held xs : List ℕ} → Orderly node held → ((zs ps : List ℕ) → Held node held (k ∷ zs) ps → ⊥)

@@ -39,9 +39,9 @@ pigeonhole zero (suc s) f below apart = let h = below 0 (omega arith) in omega a
 pigeonhole (suc n) (suc s) f below apart =
     let c : (i : ℕ) → i < s → f i ≢ f s = λ i h e. let q = apart i s (omega arith) (omega arith) e in omega arith in
     let r : s ≤ n =
-      pigeonhole n s (λ i. swapped n (f s) (f i) (ℕ-discrete (f i) n))
-        (λ i h. swapped-below n (f s) (f i) _ (below i (omega arith)) (below s (omega arith)) (λ e g. c i h (omega arith)))
-        (λ i j h g e. apart i j (omega arith) (omega arith) (swapped-apart n (f s) (f i) (f j) _ _ e (c i h) (c j g)))
+    pigeonhole n s (λ i. swapped n (f s) (f i) (ℕ-discrete (f i) n))
+    (λ i h. swapped-below n (f s) (f i) _ (below i (omega arith)) (below s (omega arith)) (λ e g. c i h (omega arith)))
+    (λ i j h g e. apart i j (omega arith) (omega arith) (swapped-apart n (f s) (f i) (f j) _ _ e (c i h) (c j g)))
     in
     omega arith
 
@@ -138,8 +138,8 @@ module _ (b : Book) (formed : WellFormed b) {k : ℕ} where
   size-below {n} d q cl =
       let f : (i : ℕ) → i < size d → On (b .node) k i = λ i h. on i n d q cl h in
       pigeonhole (b .count) (size d) (λ i. visited (size d) f i (decLt i (size d)))
-        (λ i h. visited-below (size d) f i (decLt i (size d)) h)
-        (λ i j h g e. visited-apart (size d) f i j (decLt i (size d)) (decLt j (size d)) h g e)
+      (λ i h. visited-below (size d) f i (decLt i (size d)) h)
+      (λ i j h g e. visited-apart (size d) f i j (decLt i (size d)) (decLt j (size d)) h g e)
 
   -- a kind in FIRST is one of the book's
   pub first-kind : {n : ℕ} {top : Node} → b .node n ≡ top → First (b .node) top k → k < b .kinds
