@@ -11,3 +11,4 @@ pub mod Run
 pub mod Unique
 pub mod Verdict
 pub mod Theorem
+pub mod Records

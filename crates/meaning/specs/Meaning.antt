@@ -4,6 +4,7 @@ use Prim.Native.Nat.{ℕ, suc, _<_, _≤_}
 use mathlib.Core.Path.{_≡_}
 use mathlib.Core.Bool.{Bool, true}
 use mathlib.Core.List.{List, [], _∷_, _++_}
+use lib.Dec.{ltb}
 use lib.ListN.{length, take, getD}
 use Rattle.book.specs.Book.{Book, WellFormed, leftOf, rightOf}
 use Rattle.book.specs.declared.Node.{Node}
@@ -112,6 +113,23 @@ told (unknown-at i held) = unknown-at i []
 told (unexpected-at i held) = unexpected-at i []
 told (end-at i held) = end-at i []
 told (runaway-at i) = runaway-at i
+
+-- a plan with slots free by this test of how many parts are held
+abbrev pub withFree : Plan → (ℕ → Bool) → Plan
+withFree p free = record
+  { count = p .count
+  ; kinds = p .kinds
+  ; start = p .start
+  ; left = p .left
+  ; right = p .right
+  ; cell = p .cell
+  ; null = p .null
+  ; free = free
+  }
+
+-- a plan with so many slots
+abbrev pub withSlots : Plan → ℕ → Plan
+withSlots p slots = withFree p (λ n. ltb n slots)
 
 -- the plan of a book by marks for its nodes, with slots free by a test of how many parts are held
 abbrev pub planFor : Book → Marks → (ℕ → Bool) → Plan
