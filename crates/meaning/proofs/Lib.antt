@@ -12,3 +12,4 @@ pub mod Unique
 pub mod Verdict
 pub mod Theorem
 pub mod Records
+pub mod Limits

@@ -1,6 +1,6 @@
 -- How many records a reading writes, of any plan, forged or not: records written and parts held together grow by at most twice the node
 -- count less two at an event, and at the end each part held is a record.
-use Prim.Native.Nat.{ℕ, zero, suc, _+_, _*_, _-_, _≤_}
+use Prim.Native.Nat.{ℕ, zero, suc, _+_, _*_, _-_, _≤_, _<_}
 use native.Mathlib.Omega.{arith}
 use mathlib.Core.Path.{_≡_, refl, ap}
 use mathlib.Core.Bool.{Bool, true, false}
@@ -125,3 +125,20 @@ module _ (p : Plan) where
       let h = reads-records xs 0 (p .start ∷ []) in
       let q = ap (λ (a : Answer). length (recordsOf a)) e in
       omega arith
+
+  -- so at most twice the node count less one, times the events, where there are some
+  pub records-events : (xs records : List ℕ) → 0 < p .count → 0 < length xs → reading p xs ≡ accepted records
+      → length records ≤ (2 * p .count - 1) * length xs
+  records-events xs records some-node some-event e =
+      let h = records-bound xs records e in
+      let q : 2 * p .count - 1 ≡ suc gain = omega arith in
+      rw q (omega arith)
+
+  -- and one for the empty run
+  pub records-empty : (records : List ℕ) → reading p [] ≡ accepted records → records ≡ emptied (p .start) ∷ []
+  unfolding reading reads finish logged
+  records-empty records e = go (p .null (p .start)) e
+    where
+      go : (t : Bool) → pick t (accepted (emptied (p .start) ∷ [])) (end-at 0 (p .start ∷ [])) ≡ accepted records → records ≡ emptied (p .start) ∷ []
+      go true e = cc
+      go false e = cc
