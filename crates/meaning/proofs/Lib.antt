@@ -13,3 +13,4 @@ pub mod Verdict
 pub mod Theorem
 pub mod Records
 pub mod Limits
+pub mod Slots

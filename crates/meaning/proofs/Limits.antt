@@ -75,8 +75,8 @@ module _ (p : Plan) (free free′ : ℕ → Bool) (looser : (n : ℕ) → free n
   walk-near k zero n held = near-same
   walk-near k (suc left) n held =
       noted-near n
-        (visit-near (p .cell n k) (p .left n) (p .right n) (λ m h. walk (withFree p free) k left m h) (λ m h. walk (withFree p free′) k left m h) free free′ held looser
-          (λ m h. walk-near k left m h))
+      (visit-near (p .cell n k) (p .left n) (p .right n) (λ m h. walk (withFree p free) k left m h) (λ m h. walk (withFree p free′) k left m h) free free′ held looser
+      (λ m h. walk-near k left m h))
 
   event-near : (k : ℕ) (held : List ℕ) → Near (event (withFree p free) k held) (event (withFree p free′) k held)
   unfolding event
@@ -95,7 +95,7 @@ module _ (p : Plan) (free free′ : ℕ → Bool) (looser : (n : ℕ) → free n
     where
       go : (t : Bool) → ((h : List ℕ) → Close (reads (withFree p free) (suc at) h xs) (reads (withFree p free′) (suc at) h xs))
           → Close (pick t (onward (event (withFree p free) k held) (λ h. reads (withFree p free) (suc at) h xs) at held) (unknown-at at held))
-            (pick t (onward (event (withFree p free′) k held) (λ h. reads (withFree p free′) (suc at) h xs) at held) (unknown-at at held))
+          (pick t (onward (event (withFree p free′) k held) (λ h. reads (withFree p free′) (suc at) h xs) at held) (unknown-at at held))
       go true f = onward-close at held _ _ (event-near k held) f
       go false f = close-same
 

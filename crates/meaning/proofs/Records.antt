@@ -92,8 +92,8 @@ module _ (p : Plan) where
   event-weight k [] = omega arith
   event-weight k (n ∷ held) =
       takeOff-weight (p .cell n k) (p .null n) (walk p k (p .count) n held) (noted (emptied n) (event p k held)) _
-        (omega (arith, walk-weight k (p .count) n held))
-        (omega (arith, noted-weight (emptied n) (event p k held), event-weight k held))
+      (omega (arith, walk-weight k (p .count) n held))
+      (omega (arith, noted-weight (emptied n) (event p k held), event-weight k held))
 
   finish-records : (at : ℕ) (before held : List ℕ) → length (recordsOf (finish p at before held)) ≤ length held
   unfolding finish recordsOf
@@ -112,7 +112,7 @@ module _ (p : Plan) where
     where
       go : (t : Bool) → ((h : List ℕ) → length (recordsOf (reads p (suc at) h xs)) ≤ length h + gain * length xs)
           → length (recordsOf (pick t (onward (event p k held) (λ h. reads p (suc at) h xs) at held) (unknown-at at held)))
-            ≤ length held + gain * suc (length xs)
+          ≤ length held + gain * suc (length xs)
       go true f =
           let h = onward-records (event p k held) (λ h. reads p (suc at) h xs) at held (length held + gain) (gain * length xs) (event-weight k held) f in
           omega arith

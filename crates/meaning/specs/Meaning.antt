@@ -116,16 +116,16 @@ told (runaway-at i) = runaway-at i
 
 -- a plan with slots free by this test of how many parts are held
 abbrev pub withFree : Plan → (ℕ → Bool) → Plan
-withFree p free = record
-  { count = p .count
-  ; kinds = p .kinds
-  ; start = p .start
-  ; left = p .left
-  ; right = p .right
-  ; cell = p .cell
-  ; null = p .null
-  ; free = free
-  }
+withFree p free = record {
+  count = p .count;
+  kinds = p .kinds;
+  start = p .start;
+  left = p .left;
+  right = p .right;
+  cell = p .cell;
+  null = p .null;
+  free = free;
+}
 
 -- a plan with so many slots
 abbrev pub withSlots : Plan → ℕ → Plan
