@@ -5,7 +5,7 @@
 #include "rinse.h"
 #include "words.h"
 
-enum { DONE = 0, PLAN_BYTES = 114, SLOTS = 16, ROOM = 64, EMPTY_RECORD = 32768 };
+enum { PLAN_BYTES = 114, SLOTS = 16, ROOM = 64, EMPTY_RECORD = 32768 };
 
 /* Prints the events of a run. */
 static void print_run(const uint8_t *run, size_t length)
@@ -37,7 +37,7 @@ static uint32_t show(const uint8_t *plan, size_t size, const uint8_t *run, size_
     uint16_t held[SLOTS], tree[ROOM];
     drumbook_reading reading = drumbook_read(plan, size, run, length, held, SLOTS, tree, ROOM);
     print_run(run, length);
-    if (reading.number == DONE) {
+    if (reading.number == DRUMBOOK_DONE) {
         printf(": accepted, %u records\n", (unsigned)reading.records);
         print_tree(tree, reading.records);
     } else {
@@ -56,9 +56,9 @@ int main(void)
     drumbook_compiled compiled = drumbook_compile(rinse, sizeof rinse, plan, sizeof plan);
     printf("the rinse book: %s, a plan of %u bytes\n", words(compiled.number),
            (unsigned)compiled.size);
-    if (compiled.number != DONE)
+    if (compiled.number != DRUMBOOK_DONE)
         return 1;
     uint32_t accepted = show(plan, compiled.size, lawful, sizeof lawful);
     uint32_t refused = show(plan, compiled.size, unlawful, sizeof unlawful);
-    return accepted == DONE && refused != DONE ? 0 : 1;
+    return accepted == DRUMBOOK_DONE && refused != DRUMBOOK_DONE ? 0 : 1;
 }

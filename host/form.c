@@ -11,7 +11,7 @@ static uint32_t judge(const char *name, const uint8_t *book, size_t length)
 {
     drumbook_formed formed = drumbook_form(book, length);
     printf("%s: %s", name, words(formed.number));
-    if (formed.number != 0)
+    if (formed.number != DRUMBOOK_DONE)
         printf(", at %u", (unsigned)formed.place);
     printf("\n");
     return formed.number;
@@ -24,5 +24,5 @@ int main(void)
     damaged[56] = 6; /* node 6 as its own left */
     uint32_t whole = judge("the rinse book", rinse, sizeof rinse);
     uint32_t other = judge("a damaged copy", damaged, sizeof damaged);
-    return whole == 0 && other != 0 ? 0 : 1;
+    return whole == DRUMBOOK_DONE && other == DRUMBOOK_NODE ? 0 : 1;
 }
