@@ -199,22 +199,26 @@ static void even_run(size_t length)
     events.length = length;
 }
 
+/* Compiles by drumbook. */
 static void drumbook_compiles(const call *c)
 {
     drumbook_compile(c->book, c->book_len, c->made, c->plan_len);
 }
 
+/* Compiles by the reference. */
 static void reference_compiles(const call *c)
 {
     reference_compile(c->book, c->book_len, c->made, c->plan_len);
 }
 
+/* Reads by drumbook. */
 static void drumbook_reads(const call *c)
 {
     drumbook_read(c->plan, c->plan_len, c->events->events, c->events->length,
                   c->held, c->slots, c->tree, c->room);
 }
 
+/* Reads by the reference. */
 static void reference_reads(const call *c)
 {
     reference_read(c->plan, c->plan_len, c->events->events, c->events->length,

@@ -20,26 +20,31 @@ mod tests {
     use meaning::Check;
     use read::read;
 
+    /// The worked books and damaged copies of the rinse book.
     #[test]
     fn worked_forms() {
         worked::check_form(form);
     }
 
+    /// The worked books.
     #[test]
     fn worked_plans() {
         worked::check_compile(compile);
     }
 
+    /// The worked runs, read.
     #[test]
     fn worked_readings() {
         worked::check_read(compile, read);
     }
 
+    /// The worked runs, by derivations.
     #[test]
     fn worked_meanings() {
         worked::check_recognise();
     }
 
+    /// All books of up to three nodes: compiler and reader against derivations.
     #[test]
     fn small_books_by_derivations() {
         let mut check = Check::of(compile, read);
@@ -52,6 +57,7 @@ mod tests {
             .expect(&[DONE, UNKNOWN, UNEXPECTED, END], 1_000);
     }
 
+    /// Random books that pass: compiler and reader against derivations.
     #[test]
     fn random_books_by_derivations() {
         let mut check = Check::of(compile, read);

@@ -34,6 +34,7 @@ struct Pair {
 }
 
 impl Pair {
+    /// A pair that has compared nothing yet.
     fn new() -> Pair {
         Pair {
             book: Lent::new(LONGEST_BOOK),
@@ -95,11 +96,13 @@ impl Pair {
     }
 }
 
+/// The worked books.
 #[test]
 fn worked_books() {
     worked::check_compile(ffi::compile::compile);
 }
 
+/// All well-formed books of up to four nodes.
 #[test]
 fn every_small_book() {
     let mut pair = Pair::new();
@@ -115,6 +118,7 @@ fn every_small_book() {
     pair.expect_conflicts(16);
 }
 
+/// Random well-formed books of all shapes.
 #[test]
 fn random_books() {
     let mut pair = Pair::new();
@@ -132,6 +136,7 @@ fn random_books() {
     pair.expect_conflicts(2_000);
 }
 
+/// Books of up to 512 nodes and 64 kinds.
 #[test]
 fn large_books() {
     let mut pair = Pair::new();
@@ -146,6 +151,7 @@ fn large_books() {
     pair.tally.expect(&[DONE, BARREN, CONFLICT, PLAN_ROOM], 100);
 }
 
+/// Books with one or two things damaged.
 #[test]
 fn damaged_books() {
     let mut pair = Pair::new();
@@ -166,6 +172,7 @@ fn damaged_books() {
     pair.tally.expect(&[BARREN], 400);
 }
 
+/// Books in memory that cannot be written.
 #[test]
 fn books_that_can_only_be_read() {
     let mut pair = Pair::new();

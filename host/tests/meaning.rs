@@ -11,6 +11,7 @@ const READ_AS: [u32; 4] = [DONE, UNKNOWN, UNEXPECTED, END];
 /// The answers that a book can get in ample room.
 const COMPILED: [u32; 3] = [DONE, BARREN, CONFLICT];
 
+/// All books of up to three nodes, on all runs of up to five events.
 #[test]
 fn every_small_book() {
     let mut check = Check::of(compile, read);
@@ -21,6 +22,7 @@ fn every_small_book() {
     check.read_as.expect(&READ_AS, 1_500);
 }
 
+/// All books of four nodes, on all short runs.
 #[test]
 fn every_book_of_four_nodes() {
     let mut check = Check::of(compile, read);
@@ -30,6 +32,7 @@ fn every_book_of_four_nodes() {
     check.read_as.expect(&READ_AS, 50_000);
 }
 
+/// Random books that pass, on all short runs and some longer ones.
 #[test]
 fn random_books() {
     let mut check = Check::of(compile, read);

@@ -93,11 +93,13 @@ fn passed_plan(book: &Book) -> Option<Vec<u8>> {
     (compile(&book.bytes(), &mut plan).number == DONE).then_some(plan)
 }
 
+/// The worked runs.
 #[test]
 fn worked_runs() {
     worked::check_read(compile, ffi::read::read);
 }
 
+/// Plans of books that pass, with lawful, spoilt and strange runs.
 #[test]
 fn compiled_plans() {
     let mut pair = Pair::new(600, 100_000);
@@ -118,6 +120,7 @@ fn compiled_plans() {
     pair.tally.expect(&[DEEP, UNKNOWN, END, NO_ROOM], 5_000);
 }
 
+/// Plans forged in all ways, now and then with a run that is too long.
 #[test]
 fn forged_plans() {
     let mut pair = Pair::new(600, 100_000);
@@ -138,6 +141,7 @@ fn forged_plans() {
     pair.tally.expect(&ANSWERS, 1_000);
 }
 
+/// Plans of up to 512 nodes and 64 kinds.
 #[test]
 fn large_plans() {
     let mut pair = Pair::new(600, 4_000_000);
@@ -159,6 +163,7 @@ fn large_plans() {
     pair.tally.expect(&common, 50);
 }
 
+/// Lawful runs with every number of slots from none to enough.
 #[test]
 fn every_number_of_slots() {
     let mut pair = Pair::new(600, 100_000);
@@ -183,6 +188,7 @@ fn every_number_of_slots() {
     pair.tally.expect(&[DONE, DEEP], 5_000);
 }
 
+/// Walks that end, or go on, at the last visit that is allowed.
 #[test]
 fn walks_of_as_many_visits_as_nodes() {
     let mut pair = Pair::new(600, 100_000);
@@ -252,6 +258,7 @@ fn winding(skipping: bool) -> Book {
     Book::ending(1, &nodes)
 }
 
+/// The rinse book with runs about the limit of events.
 #[test]
 fn longest_runs() {
     let mut pair = Pair::new(70_000, 600_000);
@@ -282,6 +289,7 @@ fn longest_runs() {
         .expect(&[DEEP, UNKNOWN, UNEXPECTED, END, NO_ROOM], 3);
 }
 
+/// Nesting up to all events, with slots about the depth.
 #[test]
 fn deepest_runs() {
     let mut pair = Pair::new(70_000, 600_000);
@@ -296,6 +304,7 @@ fn deepest_runs() {
     pair.tally.expect(&[DONE, DEEP, END], 2);
 }
 
+/// The longest run with nearly all nodes visited at each event.
 #[test]
 fn greatest_trees() {
     let mut pair = Pair::new(600, 40_000_000);
@@ -309,6 +318,7 @@ fn greatest_trees() {
     pair.tally.expect(&[NO_ROOM], 2);
 }
 
+/// Plans and runs in memory that cannot be written.
 #[test]
 fn inputs_that_can_only_be_read() {
     let mut pair = Pair::new(600, 100_000);
