@@ -17,7 +17,7 @@ mod tests {
     use answers::*;
     use compile::compile;
     use form::form;
-    use meaning::Check;
+    use meaning::{all_runs, Check};
     use read::read;
 
     /// The worked books and damaged copies of the rinse book.
@@ -49,7 +49,7 @@ mod tests {
     fn small_books_by_derivations() {
         let mut check = Check::of(compile, read);
         for (count, kinds) in [(1, 1), (2, 1), (3, 1), (1, 2), (2, 2), (3, 2)] {
-            check.small_books(count, kinds, 4);
+            check.small_books(count, kinds, &all_runs(kinds as u8 + 1, 4));
         }
         check.compiled.expect(&[DONE, BARREN, CONFLICT], 100);
         check

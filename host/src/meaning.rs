@@ -45,12 +45,11 @@ impl Check {
         }
     }
 
-    /// Checks all books of so many nodes, on all runs up to a length.
-    pub fn small_books(&mut self, count: usize, kinds: u16, longest: usize) {
-        let runs = all_runs(kinds as u8 + 1, longest);
+    /// Checks all books of so many nodes and kinds on these runs.
+    pub fn small_books(&mut self, count: usize, kinds: u16, runs: &[Vec<u8>]) {
         all_books(count, kinds, &mut |book| {
             if let Some(plan) = self.plan(book) {
-                for run in &runs {
+                for run in runs {
                     self.run(book, &plan, run);
                 }
             }
@@ -126,7 +125,7 @@ fn check_expected(book: &Book, begun: &[u8], expected: u64) {
 }
 
 /// All runs of kinds below `kinds` up to a length.
-fn all_runs(kinds: u8, longest: usize) -> Vec<Vec<u8>> {
+pub fn all_runs(kinds: u8, longest: usize) -> Vec<Vec<u8>> {
     let mut runs = vec![Vec::new()];
     let mut at = 0;
     while at < runs.len() && runs[at].len() < longest {

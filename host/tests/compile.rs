@@ -156,7 +156,7 @@ fn large_books() {
 fn damaged_books() {
     let mut pair = Pair::new();
     let mut random = Random::new(4);
-    for _ in 0..60_000 {
+    for _ in 0..120_000 {
         let mut bytes = likely_book(&mut random).bytes();
         for _ in 0..random.within(1, 2) {
             bytes = damaged(&mut random, &bytes);
@@ -167,9 +167,9 @@ fn damaged_books() {
         pair.compare(&bytes, room, edge);
     }
     pair.tally
-        .expect(&[LENGTH, CONTENTS, SETTINGS, NODE], 1_000);
-    pair.tally.expect(&[DONE, CONFLICT, PLAN_ROOM], 1_000);
-    pair.tally.expect(&[BARREN], 400);
+        .expect(&[LENGTH, CONTENTS, SETTINGS, NODE], 3_000);
+    pair.tally.expect(&[DONE, CONFLICT, PLAN_ROOM], 2_000);
+    pair.tally.expect(&[BARREN], 800);
 }
 
 /// Books in memory that cannot be written.

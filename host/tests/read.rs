@@ -138,7 +138,7 @@ fn forged_plans() {
         }
         pair.compare_rooms(&mut random, &plan, &run);
     }
-    pair.tally.expect(&ANSWERS, 1_000);
+    pair.tally.expect(&ANSWERS, 2_000);
 }
 
 /// Plans of up to 512 nodes and 64 kinds.
