@@ -14,3 +14,4 @@ pub mod Theorem
 pub mod Records
 pub mod Limits
 pub mod Slots
+pub mod Alike
