@@ -1,1 +1,3 @@
 pub mod Book
+pub mod Decode
+pub mod Form

@@ -1,0 +1,4 @@
+pub mod Decoded
+pub mod FirstBad
+pub mod Laws
+mod Types

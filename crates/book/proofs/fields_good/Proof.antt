@@ -1,0 +1,31 @@
+-- `book::fields_good` meets its contract: an arm for each type of the table.
+use Rattle.book.proofs.Types.{no-type}
+use Rattle.book.proofs.fields_good.Statement.{statement}
+use Rattle.book.proofs.fields_good.Tie as tie
+
+returns : tie.Need-returns
+returns c = rw (c .match .keys1)
+
+returns-2 : tie.Need-returns-2
+returns-2 c = rw (c .match .keys2)
+
+returns-3 : tie.Need-returns-3
+returns-3 c = rw (c .match .keys3)
+
+returns-4 : tie.Need-returns-4
+returns-4 c = rw (c .match .keys4)
+
+returns-5 : tie.Need-returns-5
+returns-5 c = rw (c .match .keys5)
+
+returns-6 : tie.Need-returns-6
+returns-6 c = rw (c .match .keys6)
+
+returns-7 : tie.Need-returns-7
+returns-7 c = rw (c .match .keys7)
+
+returns-8 : tie.Need-returns-8
+returns-8 c = rw (no-type (c .before .args .kind) (c .match .rest) .1)
+
+pub fields-good-spec : {M : Type 1} → statement M
+fields-good-spec = tie.close (tie.spec returns returns-2 returns-3 returns-4 returns-5 returns-6 returns-7 returns-8)

@@ -1,0 +1,182 @@
+-- What a set has, by how it was made; two sets with the same kinds are one; the lowest kind.
+use Prim.Native.Nat.{ℕ, zero, suc, _+_, _-_, _*_, _/_, _%_, _^_, _≤_, _<_, min, max}
+use mathlib.Core.Path.{_≡_, refl, sym, ap, _∙_}
+use mathlib.Core.Logic.{_↔_, _≢_, _⊎_, inl, inr, ⊎-elim, Iff·trans}
+use mathlib.Core.Bool.{Bool, true, false}
+use native.Mathlib.Nat.{mod-lt, div-eq-of-lt, div-self, lt-of-lt-of-le, pow-suc}
+use native.Mathlib.Decide.{ℕ-discrete, decLt}
+use native.Mathlib.Omega.{arith}
+use borrow.Author.Tests.{eqb-true, eq-eqb}
+use lib.Dec.{lit<}
+use lib.Pow.{pow-mono, pow-pos, shr-shr, ones-split, ones-lt, high}
+use lib.Bits.{bitAnd, bitOr, and-shr, or-shr, and-step, or-step, and-le-r}
+use lib.Count.{trailingZeros, under, trailing-of-zero}
+use Rattle.kinds.specs.Kinds.{Has, has?, everyKind, onlyKind, joined, inBoth, lowestKind, Lowest}
+
+-- the test decides
+pub has?-is : (mask k : ℕ) → (has? mask k ≡ true) ↔ Has mask k
+has?-is mask k = ((λ e. record { bit = eqb-true _ _ e }), (λ h. eq-eqb _ _ (h .bit)))
+
+-- a set has a kind or has it not
+pub has-dec : (mask k : ℕ) → Dec (Has mask k)
+has-dec mask k = elim (ℕ-discrete (mask / 2 ^ k % 2) 1) [ yes e ↦ yes (record { bit = e }) | no f ↦ no (λ h. f (h .bit)) ]
+
+-- ---- bounds
+
+-- a set below 2 ^ width has no kind from width on
+pub beyond : (width : ℕ) {mask k : ℕ} → mask < 2 ^ width → width ≤ k → Has mask k → ⊥
+beyond width {mask} {k} small far h =
+    omega (arith, h .bit, div-eq-of-lt {n = mask} {m = 2 ^ k} (lt-of-lt-of-le small (pow-mono far)))
+
+-- the empty set has no kind
+pub none : {k : ℕ} → Has 0 k → ⊥
+none h = beyond 0 (lit< tt) (omega arith) h
+
+half-shift : (a k : ℕ) → a / 2 / 2 ^ k ≡ a / 2 ^ suc k
+half-shift a k = shr-shr a 1 k ∙ ap (λ (j : ℕ). a / 2 ^ j) (omega arith)
+
+-- a set has what its half has, one place higher
+has-half : (mask k : ℕ) → Has (mask / 2) k ↔ Has mask (suc k)
+has-half mask k = (
+  (λ h. record { bit = omega (arith, h .bit, half-shift mask k) }),
+  (λ h. record { bit = omega (arith, h .bit, half-shift mask k) }),
+)
+
+-- ---- one kind, all kinds, joined, shared
+
+single-only : (j k : ℕ) → Has (onlyKind k) j → j ≡ k
+single-only zero zero h = refl
+single-only zero (suc k) h = absurd (omega (arith, h .bit, pow-suc 2 k))
+single-only (suc j) zero h = absurd (beyond 1 (lit< tt) (omega arith) h)
+single-only (suc j) (suc k) h =
+    let halved : 2 ^ suc k / 2 ≡ 2 ^ k = omega (arith, pow-suc 2 k) in
+    ap suc (single-only j k (rw halved at (has-half (2 ^ suc k) j .1 h)))
+
+-- the set of one kind has that kind and no other
+pub has-single : (j k : ℕ) → Has (onlyKind k) j ↔ (j ≡ k)
+has-single j k = (single-only j k, (λ e. record { bit = rw (e, div-self (pow-pos k)) refl }))
+
+-- the set of all kinds has exactly those below 64
+pub all : {k : ℕ} → Has everyKind k ↔ (k < 64)
+unfolding everyKind
+all {k} = (inside (decLt k 64), (λ h. record { bit = bit-is (63 - k) (omega arith) }))
+  where
+    inside : Dec (k < 64) → Has 18446744073709551615 k → k < 64
+    inside (yes h) has = h
+    inside (no f) has = absurd (beyond 64 (lit< tt) (omega arith) has)
+
+    bit-is : (i : ℕ) → suc i + k ≡ 64 → 18446744073709551615 / 2 ^ k % 2 ≡ 1
+    bit-is i e =
+        let whole : 18446744073709551615 ≡ (2 ^ suc i - 1) * 2 ^ k + (2 ^ k - 1) = ap (λ (n : ℕ). 2 ^ n - 1) (sym e) ∙ ones-split (suc i) k in
+        let top : 18446744073709551615 / 2 ^ k ≡ 2 ^ suc i - 1 = ap (λ (n : ℕ). n / 2 ^ k) whole ∙ high (2 ^ suc i - 1) k (ones-lt k) in
+        omega (arith, pow-suc 2 i, pow-pos i)
+
+and-bit : (a b k : ℕ) → bitAnd a b / 2 ^ k % 2 ≡ min (a / 2 ^ k % 2) (b / 2 ^ k % 2)
+and-bit a b k = omega (arith, and-shr a b k, and-step (a / 2 ^ k) (b / 2 ^ k))
+
+or-bit : (a b k : ℕ) → bitOr a b / 2 ^ k % 2 ≡ max (a / 2 ^ k % 2) (b / 2 ^ k % 2)
+or-bit a b k = omega (arith, or-shr a b k, or-step (a / 2 ^ k) (b / 2 ^ k))
+
+-- two sets joined have the kinds of either
+pub has-join : (a b k : ℕ) → Has (joined a b) k ↔ (Has a k ⊎ Has b k)
+has-join a b k = (to (has-dec a k), ⊎-elim (λ h. record { bit = from (inl (h .bit)) }) (λ h. record { bit = from (inr (h .bit)) }))
+  where
+    to : Dec (Has a k) → Has (joined a b) k → Has a k ⊎ Has b k
+    to (yes h) j = inl h
+    to (no f) j = let other : a / 2 ^ k % 2 ≢ 1 = λ e. f (record { bit = e }) in inr (record { bit = omega (arith, or-bit a b k, j .bit) })
+
+    from : (a / 2 ^ k % 2 ≡ 1) ⊎ (b / 2 ^ k % 2 ≡ 1) → bitOr a b / 2 ^ k % 2 ≡ 1
+    from (inl e) = omega (arith, or-bit a b k)
+    from (inr e) = omega (arith, or-bit a b k)
+
+-- the set of what two sets share has the kinds of both
+pub has-shared : (a b k : ℕ) → Has (inBoth a b) k ↔ (Has a k × Has b k)
+has-shared a b k = (
+  (λ h. (record { bit = omega (arith, h .bit, and-bit a b k) }, record { bit = omega (arith, h .bit, and-bit a b k) })),
+  (λ h. record { bit = omega (arith, h .0 .bit, h .1 .bit, and-bit a b k) }),
+)
+
+-- ---- sets by their kinds
+
+same-bits : (width a b : ℕ) → a < 2 ^ width → b < 2 ^ width → ((k : ℕ) → Has a k ↔ Has b k) → a ≡ b
+same-bits zero a b ha hb same = omega arith
+same-bits (suc width) a b ha hb same =
+    let high : a / 2 ≡ b / 2 =
+    same-bits width (a / 2) (b / 2) (omega (arith, pow-suc 2 width)) (omega (arith, pow-suc 2 width))
+    (λ k. Iff·trans (has-half a k) (Iff·trans (same (suc k)) (swap (has-half b k)))) in
+    low (has-dec a 0) (has-dec b 0) high
+  where
+    swap : {A B : Type 0} → A ↔ B → B ↔ A
+    swap e = (e .1, e .0)
+
+    low : Dec (Has a 0) → Dec (Has b 0) → a / 2 ≡ b / 2 → a ≡ b
+    low (yes x) (yes y) e = omega (arith, x .bit, y .bit)
+    low (yes x) (no g) e = absurd (g (same 0 .0 x))
+    low (no f) (yes y) e = absurd (f (same 0 .1 y))
+    low (no f) (no g) e =
+        let p : a % 2 ≢ 1 = λ q. f (record { bit = omega arith }) in
+        let r : b % 2 ≢ 1 = λ q. g (record { bit = omega arith }) in
+        omega arith
+
+-- two masks below 2 ^ 64 with the same kinds are equal
+pub same-kinds : {a b : ℕ} → a < 2 ^ 64 → b < 2 ^ 64 → ((k : ℕ) → Has a k ↔ Has b k) → a ≡ b
+same-kinds {a} {b} ha hb same = same-bits 64 a b ha hb same
+
+-- a set with every kind of another and more is the greater number
+pub more-kinds : {a b : ℕ} → a < 2 ^ 64 → b < 2 ^ 64 → ((k : ℕ) → Has a k → Has b k) → a ≢ b → a < b
+more-kinds {a} {b} ha hb more differ =
+    let e : inBoth a b ≡ a = same-kinds (omega (arith, and-le-r a b)) ha (λ k. ((λ h. has-shared a b k .0 h .0), (λ h. has-shared a b k .1 (h, more k h)))) in
+    omega (arith, and-le-r a b, differ)
+
+-- ---- the lowest kind
+
+zeros-below : (width mask j : ℕ) → j < trailingZeros width mask → Has mask j → ⊥
+unfolding trailingZeros
+zeros-below zero mask j h = absurd (omega arith)
+zeros-below (suc width) mask j h = go (mask % 2) j refl (λ i. zeros-below width (mask / 2) i) h
+  where
+    go : (r j : ℕ) → mask % 2 ≡ r → ((i : ℕ) → i < trailingZeros width (mask / 2) → Has (mask / 2) i → ⊥)
+        → j < under r (trailingZeros width (mask / 2)) → Has mask j → ⊥
+    go zero zero e rest l has = omega (arith, has .bit)
+    go zero (suc j) e rest l has = rest j (omega arith) (has-half mask j .1 has)
+    go (suc r) j e rest l has = omega arith
+
+zeros-end : (width mask : ℕ) → trailingZeros width mask < width → Has mask (trailingZeros width mask)
+unfolding trailingZeros
+zeros-end zero mask h = absurd (omega arith)
+zeros-end (suc width) mask h = go (mask % 2) refl (zeros-end width (mask / 2)) h
+  where
+    go : (r : ℕ) → mask % 2 ≡ r → (trailingZeros width (mask / 2) < width → Has (mask / 2) (trailingZeros width (mask / 2)))
+        → under r (trailingZeros width (mask / 2)) < suc width → Has mask (under r (trailingZeros width (mask / 2)))
+    go zero e rest l = has-half mask _ .0 (rest (omega arith))
+    go (suc r) e rest l = record { bit = omega (arith, mod-lt mask {m = 2} (lit< tt)) }
+
+-- the lowest kind is in a set that is not empty, no lower one is, and that of the empty set is 64
+pub lowest-is : {mask : ℕ} → mask < 2 ^ 64 → Lowest mask (lowestKind mask)
+unfolding lowestKind
+lowest-is {mask} small = record {
+  least = λ j l. zeros-below 64 mask j l;
+  found = λ some. found some (decLt (trailingZeros 64 mask) 64);
+  empty = λ e. ap (trailingZeros 64) e ∙ trailing-of-zero 64;
+}
+  where
+    found : mask ≢ 0 → Dec (trailingZeros 64 mask < 64) → Has mask (trailingZeros 64 mask)
+    found some (yes l) = zeros-end 64 mask l
+    found some (no f) = absurd (some (same-kinds small (lit< tt) (λ k. ((λ h. absurd (nowhere k (decLt k 64) h)), (λ h. absurd (none h))))))
+      where
+        nowhere : (k : ℕ) → Dec (k < 64) → Has mask k → ⊥
+        nowhere k (yes l) = zeros-below 64 mask k (omega arith)
+        nowhere k (no g) = beyond 64 small (omega arith)
+
+-- a set has one lowest kind
+pub lowest-unique : {mask j k : ℕ} → Lowest mask j → Lowest mask k → j ≡ k
+lowest-unique {mask} {j} {k} p q = go (ℕ-discrete mask 0)
+  where
+    go : Dec (mask ≡ 0) → j ≡ k
+    go (yes e) = p .empty e ∙ sym (q .empty e)
+    go (no f) = go₂ (decLt j k) (decLt k j)
+      where
+        go₂ : Dec (j < k) → Dec (k < j) → j ≡ k
+        go₂ (yes l) d = absurd (q .least j l (p .found f))
+        go₂ (no g) (yes l) = absurd (p .least k l (q .found f))
+        go₂ (no g) (no h) = omega arith

@@ -1,0 +1,50 @@
+-- `words::clear_bytes` meets its contract. The loop's invariant: the elements passed are zeros, the others as they were. The measure is what
+-- is left of the length.
+use Prim.Native.Nat.{_-_}
+use native.Mathlib.Omega.{arith}
+use borrow.Author.Needs.{needs}
+use lib.ListN.{length}
+use Rattle.words.proofs.Cleared.{Cleared, cleared-none, cleared-more, cleared-length, cleared-all}
+use Rattle.words.proofs.clear_bytes.Statement.{statement}
+use Rattle.words.proofs.clear_bytes.Tie as tie
+
+abbrev Inv-loop : tie.InvT-loop
+Inv-loop bytes₀ at₀ bytes at = Cleared bytes₀ bytes at
+
+abbrev μ-loop : tie.MeasureT-loop
+μ-loop bytes₀ at₀ bytes at = length bytes₀ - at
+
+loop-holds : tie.Need-loop-holds Inv-loop μ-loop
+loop-holds c = cleared-none _
+
+slice-write-bytes : tie.Need-slice-write-bytes Inv-loop μ-loop
+slice-write-bytes c = search needs
+
+add-at : tie.Need-add-at Inv-loop μ-loop
+add-at c = search needs
+
+loop-less : tie.Need-loop-less Inv-loop μ-loop
+loop-less c = omega (arith, cleared-length (c .before .loop .inv))
+
+loop-again : tie.Need-loop-again Inv-loop μ-loop
+loop-again c = cleared-more (c .before .loop .inv) (c .loop-test .taken)
+
+same-length : tie.Need-same-length Inv-loop μ-loop
+same-length c = cleared-length (c .before .loop .inv)
+
+returns : tie.Need-returns Inv-loop μ-loop
+returns c = cleared-all (c .before .loop .inv) (c .loop-test .left)
+
+pub clear-bytes-spec : {M : Type 1} → statement M
+clear-bytes-spec =
+    tie.close
+    (tie.spec
+    Inv-loop
+    μ-loop
+    loop-holds
+    slice-write-bytes
+    add-at
+    loop-less
+    loop-again
+    same-length
+    returns)

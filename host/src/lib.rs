@@ -1,0 +1,64 @@
+//! Independent implementations of document 01, and what the tests of the proved library share.
+
+pub mod answers;
+pub mod book;
+pub mod books;
+pub mod compile;
+pub mod ffi;
+pub mod form;
+pub mod meaning;
+pub mod read;
+pub mod recognise;
+pub mod worked;
+
+#[cfg(test)]
+mod tests {
+    use super::*;
+    use answers::*;
+    use compile::compile;
+    use form::form;
+    use meaning::Check;
+    use read::read;
+
+    #[test]
+    fn worked_forms() {
+        worked::check_form(form);
+    }
+
+    #[test]
+    fn worked_plans() {
+        worked::check_compile(compile);
+    }
+
+    #[test]
+    fn worked_readings() {
+        worked::check_read(compile, read);
+    }
+
+    #[test]
+    fn worked_meanings() {
+        worked::check_recognise();
+    }
+
+    #[test]
+    fn small_books_by_derivations() {
+        let mut check = Check::of(compile, read);
+        for (count, kinds) in [(1, 1), (2, 1), (3, 1), (1, 2), (2, 2), (3, 2)] {
+            check.small_books(count, kinds, 4);
+        }
+        check.compiled.expect(&[DONE, BARREN, CONFLICT], 100);
+        check
+            .read_as
+            .expect(&[DONE, UNKNOWN, UNEXPECTED, END], 1_000);
+    }
+
+    #[test]
+    fn random_books_by_derivations() {
+        let mut check = Check::of(compile, read);
+        check.random_books(1, 5_000);
+        check.compiled.expect(&[DONE, BARREN, CONFLICT], 500);
+        check
+            .read_as
+            .expect(&[DONE, UNKNOWN, UNEXPECTED, END], 5_000);
+    }
+}
