@@ -14,4 +14,3 @@ pub mod Theorem
 pub mod Records
 pub mod Limits
 pub mod Slots
-pub mod Alike

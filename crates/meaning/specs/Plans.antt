@@ -1,25 +1,13 @@
--- The plan of a book, and plans with so many slots.
+-- Plans with slots always free, and with so many slots.
 use Prim.Native.Nat.{ℕ}
 use mathlib.Core.Bool.{Bool, true}
 use lib.Dec.{ltb}
-use Rattle.book.specs.Book.{Book, leftOf, rightOf}
-use Rattle.plan.specs.Cells.{Marks, cellOf}
+use Rattle.book.specs.Book.{Book}
+use Rattle.plan.specs.Bytes.{planFor}
+use Rattle.plan.specs.Cells.{Marks}
 use Rattle.plan.specs.Running.{Plan}
 
--- the plan of a book by marks for its nodes, with slots free by a test of how many parts are held
-abbrev pub planFor : Book → Marks → (ℕ → Bool) → Plan
-planFor b marks free = record {
-  count = b .count;
-  kinds = b .kinds;
-  start = b .start;
-  left = λ n. leftOf (b .node n);
-  right = λ n. rightOf (b .node n);
-  cell = λ n k. cellOf marks k n (b .node n);
-  null = marks .null;
-  free = free;
-}
-
--- the same with a slot always free
+-- the plan of a book by marks for its nodes, with a slot always free
 abbrev pub freePlan : Book → Marks → Plan
 freePlan b marks = planFor b marks (λ n. true)
 
