@@ -1,6 +1,6 @@
 -- What one event comes to on the free machine, seen by its result: taken, and the parts then held derive exactly what stood behind the
 -- event; or refused, and no run of the parts held begins with it.
-use Prim.Native.Nat.{ℕ, zero, suc, _+_, _-_}
+use Prim.Native.Nat.{ℕ, _+_, _-_}
 use native.Mathlib.Omega.{arith}
 use mathlib.Core.Path.{_≡_, refl, sym, ap, _∙_}
 use mathlib.Core.Bool.{Bool, true, false, false≢true}
@@ -8,16 +8,16 @@ use mathlib.Core.List.{List, [], _∷_, _++_}
 use Rattle.book.specs.Book.{Book, WellFormed}
 use Rattle.book.specs.declared.Node.{Node}
 use Rattle.rules.specs.Rules.{First, Nullable}
-use Rattle.plan.specs.Cells.{Marks, Marked, cellOf}
+use Rattle.plan.specs.Cells.{Marks, Marked}
 use Rattle.plan.specs.Running.{Step, taken, refused, emptied, noted, takeOff, walk, event}
-use Rattle.meaning.specs.Meaning.{freePlan}
+use Rattle.meaning.specs.Plans.{freePlan}
 use Rattle.meaning.proofs.Facts.{nullable-first-snf}
 use Rattle.meaning.proofs.Parts.{Held, held-none, held-some}
 use Rattle.meaning.proofs.Walk.{after, recorded, size, part-first, walk-sound, walk-complete}
 use Rattle.meaning.proofs.Clear.{Clear}
 use Rattle.meaning.proofs.Machine.{walk-is, cell-first, cell-other}
 use Rattle.meaning.proofs.Size.{size-below}
-use Rattle.meaning.proofs.Orderly.{Apart, Orderly, orderly-end, orderly-part, held-nothing, walk-orderly}
+use Rattle.meaning.proofs.Orderly.{Apart, Orderly, orderly-part, held-nothing, walk-orderly}
 
 -- an event taken: the parts then held are in order and derive exactly what stood behind the event
 pub record Took (node : ℕ → Node) (k : ℕ) (held then records : List ℕ) : Type 0 where

@@ -1,11 +1,10 @@
 -- What the rules' facts say of runs: nullable iff the empty run is derived, productive iff some run is, a kind in FIRST iff a run that
 -- begins with it is.
 use Prim.Native.Nat.{ℕ}
-use mathlib.Core.Path.{_≡_}
 use mathlib.Core.List.{List, [], _∷_, _++_}
 use mathlib.Core.Logic.{_↔_}
 use Rattle.book.specs.declared.Node.{Node}
-use Rattle.book.specs.declared.Node.the-variants.{Fail, Empty, Token, Either, Then, Tagged, Ref}
+use Rattle.book.specs.declared.Node.the-variants.{Then}
 use Rattle.rules.specs.Rules.{Productive, p-empty, p-token, p-left, p-right, p-then, p-tagged, p-ref}
 use Rattle.rules.specs.Rules.{Nullable, n-empty, n-left, n-right, n-then, n-tagged, n-ref}
 use Rattle.rules.specs.Rules.{First, f-token, f-left, f-right, f-hold, f-skip, f-tagged, f-ref}

@@ -1,17 +1,15 @@
 -- Limits: a machine with fewer slots answers as one with more, or DEEP; and with enough slots for the nodes and the events it is never
 -- DEEP. Of any plan, forged or not.
-use Prim.Native.Nat.{ℕ, zero, suc, _+_, _*_, _-_, _≤_, _<_}
-use native.Mathlib.Omega.{arith}
-use mathlib.Core.Path.{_≡_, refl, ap}
+use Prim.Native.Nat.{ℕ, zero, suc}
+use mathlib.Core.Path.{_≡_, refl}
 use mathlib.Core.Bool.{Bool, true, false, false≢true}
 use mathlib.Core.List.{List, [], _∷_}
-use mathlib.Core.Logic.{_⊎_, inl, inr, _↔_}
+use mathlib.Core.Logic.{_⊎_, inl, inr}
 use lib.Dec.{ltb}
 use lib.ListN.{length}
-use borrow.Author.Tests.{lt-ltb, ltb-true}
 use Rattle.plan.specs.Running.{Plan, Step, taken, refused, deep, runaway, emptied, noted, pick, visit, takeOff, walk, event}
-use Rattle.plan.specs.Running.{Answer, accepted, deep-at, unknown-at, unexpected-at, end-at, runaway-at, logged, onward, finish, reads, reading}
-use Rattle.meaning.specs.Meaning.{withFree, withSlots}
+use Rattle.plan.specs.Running.{Answer, deep-at, unknown-at, logged, onward, finish, reads, reading}
+use Rattle.meaning.specs.Plans.{withFree}
 
 -- a step is another's, or there was no slot
 data Near : Step → Step → Type 0 where

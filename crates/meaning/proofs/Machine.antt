@@ -1,18 +1,18 @@
 -- The walk of a plan's rows is the walk along any derivation of the kind in FIRST, where no node below has a conflict: the cell of a
 -- node for a kind leaves only one way to go on.
-use Prim.Native.Nat.{ℕ, zero, suc, _+_}
+use Prim.Native.Nat.{ℕ, suc, _+_}
 use native.Mathlib.Nat.{add-suc}
 use mathlib.Core.Path.{_≡_, refl, ap, _∙_}
 use mathlib.Core.Bool.{Bool, true, false, not, _&&_, and-false}
-use mathlib.Core.List.{List, [], _∷_}
+use mathlib.Core.List.{List, _∷_}
 use Rattle.book.specs.Book.{Book, leftOf, rightOf}
 use Rattle.book.specs.declared.Node.{Node}
 use Rattle.book.specs.declared.Node.the-variants.{Fail, Empty, Token, Either, Then, Tagged, Ref}
 use Rattle.rules.specs.Rules.{First, f-token, f-left, f-right, f-hold, f-skip, f-tagged, f-ref, c-first, c-follow}
 use Rattle.rules.specs.Rules.{either-left, either-right, then-left, then-right, tagged-left, ref-left}
 use Rattle.plan.specs.Cells.{Marks, Marked, cellOf}
-use Rattle.plan.specs.Running.{Plan, emptied, Step, taken, pick, noted, visit, walk}
-use Rattle.meaning.specs.Meaning.{freePlan}
+use Rattle.plan.specs.Running.{emptied, Step, taken, pick, noted, visit, walk}
+use Rattle.meaning.specs.Plans.{freePlan}
 use Rattle.meaning.proofs.Facts.{nullable-first-snf}
 use Rattle.meaning.proofs.Walk.{after, recorded, size}
 use Rattle.meaning.proofs.Clear.{Clear, clear-child, clear-here}

@@ -2,8 +2,8 @@
 use Prim.Native.Nat.{ℕ}
 use mathlib.Core.List.{List, [], _∷_, _++_}
 use Rattle.book.specs.declared.Node.{Node}
-use Rattle.book.specs.declared.Node.the-variants.{Fail, Empty, Token, Either, Then, Tagged, Ref}
-use Rattle.rules.specs.Rules.{Productive, Nullable}
+use Rattle.book.specs.declared.Node.the-variants.{Then}
+use Rattle.rules.specs.Rules.{Productive}
 use Rattle.rules.specs.Rules.{First, f-token, f-left, f-right, f-hold, f-skip, f-tagged, f-ref}
 use Rattle.rules.specs.Rules.{Snf, s-left, s-right, s-then-left, s-then-right, s-tagged, s-ref, c-follow}
 use Rattle.rules.specs.Rules.{either-left, either-right, then-left, then-right, tagged-left, ref-left}

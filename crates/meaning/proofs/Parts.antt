@@ -4,9 +4,8 @@ use Prim.Native.Nat.{ℕ}
 use mathlib.Core.Path.{_≡_, refl, ap, _∙_}
 use mathlib.Core.List.{List, [], _∷_, _++_, append-nil, append-assoc}
 use Rattle.book.specs.declared.Node.{Node}
-use Rattle.book.specs.declared.Node.the-variants.{Fail, Empty, Token, Either, Then, Tagged, Ref}
+use Rattle.book.specs.declared.Node.the-variants.{Token, Either, Then, Tagged, Ref}
 use Rattle.rules.specs.Rules.{Nullable, n-empty, n-left, n-right, n-then, n-tagged, n-ref}
-use Rattle.rules.specs.Rules.{First, f-token, f-left, f-right, f-hold, f-skip, f-tagged, f-ref}
 use Rattle.plan.specs.Running.{emptied}
 use Rattle.meaning.specs.Meaning.{Derives, d-empty, d-token, d-left, d-right, d-then, d-tagged, d-ref, partRecords, parts, tree}
 use Rattle.meaning.proofs.Facts.{nullable-derives-empty, derives-opens}

@@ -2,9 +2,9 @@
 -- count less two at an event, and at the end each part held is a record.
 use Prim.Native.Nat.{ℕ, zero, suc, _+_, _*_, _-_, _≤_, _<_}
 use native.Mathlib.Omega.{arith}
-use mathlib.Core.Path.{_≡_, refl, ap}
+use mathlib.Core.Path.{_≡_, ap}
 use mathlib.Core.Bool.{Bool, true, false}
-use mathlib.Core.List.{List, [], _∷_, _++_}
+use mathlib.Core.List.{List, [], _∷_}
 use lib.Dec.{ltb}
 use lib.ListN.{length, length-append}
 use Rattle.plan.specs.Running.{Plan, Step, taken, refused, deep, runaway, emptied, noted, pick, visit, takeOff, walk, event}

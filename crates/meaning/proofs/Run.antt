@@ -1,5 +1,5 @@
 -- What a run comes to on the free machine, seen by its answer: one induction on the events.
-use Prim.Native.Nat.{ℕ, zero, suc, _+_, _<_, _≤_}
+use Prim.Native.Nat.{ℕ, suc, _+_, _<_, _≤_}
 use native.Mathlib.Omega.{arith}
 use mathlib.Core.Path.{_≡_, refl, sym, ap, _∙_}
 use mathlib.Core.Bool.{Bool, true, false, false≢true}
@@ -11,12 +11,12 @@ use Rattle.book.specs.Book.{Book, WellFormed}
 use Rattle.book.specs.declared.Node.{Node}
 use Rattle.rules.specs.Rules.{Nullable}
 use Rattle.plan.specs.Cells.{Marks, Marked}
-use Rattle.plan.specs.Running.{Step, Answer, accepted, deep-at, unknown-at, unexpected-at, end-at, runaway-at, emptied, pick, logged, onward, event, finish, reads}
-use Rattle.meaning.specs.Meaning.{freePlan}
+use Rattle.plan.specs.Running.{Step, Answer, accepted, unknown-at, unexpected-at, end-at, emptied, logged, onward, finish, reads}
+use Rattle.meaning.specs.Plans.{freePlan}
 use Rattle.meaning.proofs.Parts.{Held, held-end, held-none, held-some}
 use Rattle.meaning.proofs.Walk.{part-first}
 use Rattle.meaning.proofs.Size.{first-kind}
-use Rattle.meaning.proofs.Orderly.{Orderly, orderly-end, orderly-part, orderly-run}
+use Rattle.meaning.proofs.Orderly.{Orderly, orderly-run}
 use Rattle.meaning.proofs.Event.{Took, Event, event-taken, event-refused, event-is}
 
 -- the run parts at a kind from all that the parts held derive

@@ -5,10 +5,9 @@ use native.Mathlib.Decide.{ℕ-discrete, decLt}
 use native.Mathlib.Omega.{arith}
 use mathlib.Core.Path.{_≡_, refl, sym, ap, pathJ, _∙_}
 use mathlib.Core.Logic.{_≢_}
-use mathlib.Core.List.{List, [], _∷_}
 use Rattle.book.specs.Book.{Book, WellFormed, Proper, token-is}
 use Rattle.book.specs.declared.Node.{Node}
-use Rattle.book.specs.declared.Node.the-variants.{Fail, Empty, Token, Either, Then, Tagged, Ref}
+use Rattle.book.specs.declared.Node.the-variants.{Fail, Token}
 use Rattle.rules.specs.Rules.{First, f-token, f-left, f-right, f-hold, f-skip, f-tagged, f-ref, c-first, c-follow}
 use Rattle.rules.specs.Rules.{either-left, either-right, then-left, then-right, tagged-left, ref-left}
 use Rattle.meaning.proofs.Facts.{nullable-first-snf}

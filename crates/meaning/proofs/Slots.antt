@@ -8,11 +8,12 @@ use mathlib.Core.Logic.{_⊎_, ⊎-elim, _↔_}
 use lib.Dec.{ltb}
 use lib.ListN.{length}
 use borrow.Author.Tests.{lt-ltb, ltb-true}
-use Rattle.plan.specs.Running.{Plan, Step, taken, refused, deep, runaway, emptied, noted, pick, visit, takeOff, walk, event}
+use Rattle.plan.specs.Running.{Plan, Step, taken, refused, runaway, emptied, noted, pick, visit, takeOff, walk, event}
 use Rattle.plan.specs.Running.{Answer, accepted, deep-at, unknown-at, unexpected-at, end-at, runaway-at, logged, onward, finish, reads, reading}
 use Rattle.book.specs.Book.{Book}
 use Rattle.plan.specs.Cells.{Marks, Marked}
-use Rattle.meaning.specs.Meaning.{Passes, Means, told, freePlan, withFree, withSlots}
+use Rattle.meaning.specs.Meaning.{Passes, Means, told}
+use Rattle.meaning.specs.Plans.{freePlan, withFree, withSlots}
 use Rattle.meaning.proofs.Limits.{free-answers}
 use Rattle.meaning.proofs.Theorem.{reading-means, meaning}
 

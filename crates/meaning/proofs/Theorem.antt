@@ -1,20 +1,21 @@
 -- Reading keeps to what a book means: for a passed book and marks that are its facts, the free machine answers a run as the book means.
 use Prim.Native.Nat.{ℕ, suc, _+_, _<_, _≤_}
 use native.Mathlib.Omega.{arith}
-use mathlib.Core.Path.{_≡_, refl, sym, ap, _∙_}
-use mathlib.Core.List.{List, [], _∷_, _++_, append-assoc}
+use mathlib.Core.Path.{_≡_, refl, ap, _∙_}
+use mathlib.Core.List.{List, [], _∷_, _++_}
 use mathlib.Core.Logic.{_↔_}
-use lib.ListN.{length, take, getD, length-append}
+use lib.ListN.{length, getD, length-append}
 use lib.Seq.{take-at, getD-at, append-snoc}
 use Rattle.book.specs.Book.{Book}
 use Rattle.rules.specs.Rules.{r-start}
 use Rattle.plan.specs.Cells.{Marks, Marked}
 use Rattle.plan.specs.Running.{Answer, accepted, deep-at, unknown-at, unexpected-at, end-at, runaway-at, reading}
-use Rattle.meaning.specs.Meaning.{tree, Lawful, Begins, Passes, Accepts, Refuses, Ends, Means, means-accepted, means-unexpected, means-unknown, means-end, told, freePlan}
-use Rattle.meaning.proofs.Parts.{Held, held-derives, derives-held}
+use Rattle.meaning.specs.Meaning.{tree, Lawful, Begins, Passes, Accepts, Refuses, Ends, Means, means-accepted, means-unexpected, means-unknown, means-end, told}
+use Rattle.meaning.specs.Plans.{freePlan}
+use Rattle.meaning.proofs.Parts.{held-derives, derives-held}
 use Rattle.meaning.proofs.Clear.{passes-clear}
 use Rattle.meaning.proofs.Orderly.{Orderly, orderly-end, orderly-part, held-nothing}
-use Rattle.meaning.proofs.Run.{Parted, Unended, Run, run-accepted, run-unexpected, run-unknown, run-end, run-is}
+use Rattle.meaning.proofs.Run.{Parted, Run, run-accepted, run-unexpected, run-unknown, run-end, run-is}
 use Rattle.meaning.proofs.Verdict.{means-unique, means-alike}
 
 -- a run that the start, held alone, parts from is refused there
@@ -28,7 +29,6 @@ module _ {b : Book} where
   parted-refuses {xs} {before} {behind} {i} {k} p e =
       let long : length before ≡ i = omega arith in
       let longer : length (before ++ k ∷ []) ≡ suc i = simp length-append (omega arith) in
-      let run : xs ≡ before ++ (k ∷ []) ++ behind = p .run-is ∙ sym (append-snoc before k behind) in
       rw (p .run-is)
       (record {
         refuses = record {
@@ -56,6 +56,11 @@ module _ {b : Book} where
         agrees = record { rest = t .0; lawful = held-derives (t .2) .0 };
         unlawful = λ d. p .differs _ (derives-held d);
       })
+
+-- the start, held alone, is in order
+start-orderly : {b : Book} → Passes b → Orderly (b .node) (b .start ∷ [])
+start-orderly {b} passes =
+    orderly-part (passes .productive) (passes-clear passes (b .start) r-start) (record { none = λ k zs ps s. held-nothing }) orderly-end
 
 -- the parts held that an answer carries
 heldOf : Answer → List ℕ
@@ -88,11 +93,7 @@ module _ {b : Book} (passes : Passes b) (marks : Marks) (marked : Marked (b .nod
   -- what the machine answers is what the book means
   pub reading-means : Means b xs (reading (freePlan b marks) xs)
   unfolding reading
-  reading-means =
-      let o : Orderly (b .node) (b .start ∷ []) =
-      orderly-part (passes .productive) (passes-clear passes (b .start) r-start) (record { none = λ k zs ps s. held-nothing }) orderly-end
-      in
-      run-means (run-is b (passes .well-formed) marks marked xs 0 (b .start ∷ []) o)
+  reading-means = run-means (run-is b (passes .well-formed) marks marked xs 0 (b .start ∷ []) (start-orderly passes))
 
   pub reading-is-means : {a : Answer} → reading (freePlan b marks) xs ≡ a → Means b xs a
   reading-is-means e = rw e at reading-means

@@ -5,7 +5,7 @@ use mathlib.Core.Path.{_≡_, refl, sym, ap, ap₂, _∙_}
 use mathlib.Core.List.{List, [], _∷_, _++_, append-assoc, tail-eq-of-cons-eq}
 use Rattle.book.specs.Book.{Book}
 use Rattle.book.specs.declared.Node.{Node}
-use Rattle.book.specs.declared.Node.the-variants.{Fail, Empty, Token, Either, Then, Tagged, Ref}
+use Rattle.book.specs.declared.Node.the-variants.{Empty, Token, Either, Then, Tagged, Ref}
 use Rattle.rules.specs.Rules.{Productive, Reach, c-nullable, c-first, c-follow}
 use Rattle.rules.specs.Rules.{Nullable, n-empty, n-left, n-right, n-then, n-tagged, n-ref}
 use Rattle.rules.specs.Rules.{First, f-token, f-left, f-right, f-hold, f-skip, f-tagged, f-ref}

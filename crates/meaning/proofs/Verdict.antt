@@ -1,17 +1,17 @@
 -- A run of a passed book has one meaning: no two answers, but for the parts held that they carry, mean the same run.
-use Prim.Native.Nat.{ℕ, suc, _<_, _≤_}
+use Prim.Native.Nat.{ℕ, suc, _<_}
 use native.Mathlib.Decide.{decLt}
 use native.Mathlib.Omega.{arith}
 use mathlib.Core.Path.{_≡_, refl, sym, ap, _∙_}
-use mathlib.Core.List.{List, [], _∷_, _++_, append-nil, append-assoc}
-use lib.ListN.{length, take, drop, getD, take-append-drop}
+use mathlib.Core.List.{List, [], _++_, append-nil, append-assoc}
+use lib.ListN.{take, drop, getD, take-append-drop}
 use lib.Seq.{take-take}
 use lib.Dec.{ltb}
 use borrow.Author.Tests.{lt-ltb, le-ltb}
 use Rattle.book.specs.Book.{Book}
 use Rattle.rules.specs.Rules.{r-start}
 use Rattle.plan.specs.Running.{Answer, accepted, deep-at, unknown-at, unexpected-at, end-at, runaway-at, pick}
-use Rattle.meaning.specs.Meaning.{tree, Lawful, Begins, Passes, Accepts, Refuses, Ends, Means, means-accepted, means-unexpected, means-unknown, means-end, told}
+use Rattle.meaning.specs.Meaning.{tree, Lawful, Begins, Passes, Refuses, Ends, Means, means-accepted, means-unexpected, means-unknown, means-end, told}
 use Rattle.meaning.proofs.Unique.{derivation-unique}
 
 -- what a beginning of a lawful run begins with is one

@@ -2,16 +2,13 @@
 -- reading means.
 use Prim.Native.Nat.{ℕ, suc, _<_, _≤_}
 use mathlib.Core.Path.{_≡_}
-use mathlib.Core.Bool.{Bool, true}
 use mathlib.Core.List.{List, [], _∷_, _++_}
-use lib.Dec.{ltb}
 use lib.ListN.{length, take, getD}
-use Rattle.book.specs.Book.{Book, WellFormed, leftOf, rightOf}
+use Rattle.book.specs.Book.{Book, WellFormed}
 use Rattle.book.specs.declared.Node.{Node}
-use Rattle.book.specs.declared.Node.the-variants.{Fail, Empty, Token, Either, Then, Tagged, Ref}
+use Rattle.book.specs.declared.Node.the-variants.{Empty, Token, Either, Then, Tagged, Ref}
 use Rattle.rules.specs.Rules.{Productive, Conflict, Reach}
-use Rattle.plan.specs.Cells.{Marks, cellOf}
-use Rattle.plan.specs.Running.{Plan, Answer, emptied, accepted, deep-at, unknown-at, unexpected-at, end-at, runaway-at}
+use Rattle.plan.specs.Running.{Answer, emptied, accepted, deep-at, unknown-at, unexpected-at, end-at, runaway-at}
 
 -- what a node derives: fail nothing; empty the empty run; token one event of its kind; either what left or right derives; then left's
 -- run followed by right's; tagged and ref what left derives
@@ -113,37 +110,3 @@ told (unknown-at i held) = unknown-at i []
 told (unexpected-at i held) = unexpected-at i []
 told (end-at i held) = end-at i []
 told (runaway-at i) = runaway-at i
-
--- a plan with slots free by this test of how many parts are held
-abbrev pub withFree : Plan → (ℕ → Bool) → Plan
-withFree p free = record {
-  count = p .count;
-  kinds = p .kinds;
-  start = p .start;
-  left = p .left;
-  right = p .right;
-  cell = p .cell;
-  null = p .null;
-  free = free;
-}
-
--- a plan with so many slots
-abbrev pub withSlots : Plan → ℕ → Plan
-withSlots p slots = withFree p (λ n. ltb n slots)
-
--- the plan of a book by marks for its nodes, with slots free by a test of how many parts are held
-abbrev pub planFor : Book → Marks → (ℕ → Bool) → Plan
-planFor b marks free = record {
-  count = b .count;
-  kinds = b .kinds;
-  start = b .start;
-  left = λ n. leftOf (b .node n);
-  right = λ n. rightOf (b .node n);
-  cell = λ n k. cellOf marks k n (b .node n);
-  null = marks .null;
-  free = free;
-}
-
--- the same with a slot always free
-abbrev pub freePlan : Book → Marks → Plan
-freePlan b marks = planFor b marks (λ n. true)
