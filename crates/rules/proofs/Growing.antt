@@ -128,6 +128,10 @@ module _ {before after : List ℕ} {i more : ℕ} {changed : Bool} (inside : i <
           (has-join (getD before i 0) more k .0 (rw (e, here) at has))
       adds m k (no f) has = inl (rw (other m f) at has)
 
+  -- the set has what was joined
+  pub joined-has : (k : ℕ) → Has more k → Has (getD after i 0) k
+  joined-has k has = rw here (has-join (getD before i 0) more k .1 (inr has))
+
   -- where nothing changed, the set had all that was joined
   pub joined-held : changed ≡ false → (k : ℕ) → Has more k → Has (getD before i 0) k
   joined-held e k has = rw (same e) at (has-join (getD before i 0) more k .1 (inr has))
@@ -144,18 +148,16 @@ visited-inside count i below = go (decLt i count)
 
 -- the first steps of a turn have been made
 pub record Turning (By : ℕ → ℕ → Type 0) (Closed : List ℕ → ℕ → Type 0) (count : ℕ) (before after : List ℕ) (i : ℕ) (changed : Bool) : Type 0 where
-  pub bound : i ≤ 2 * count
   pub grown : Grown By before after changed
   pub closed : changed ≡ false → (n : ℕ) → n < count → n < i → Closed before n
 
 module _ {By : ℕ → ℕ → Type 0} {Closed : List ℕ → ℕ → Type 0} {count : ℕ} where
   pub turning-none : (sets : List ℕ) → Turning By Closed count sets sets 0 false
-  turning-none sets = record { bound = omega arith; grown = grown-none sets; closed = λ e n below l. absurd (omega arith) }
+  turning-none sets = record { grown = grown-none sets; closed = λ e n below l. absurd (omega arith) }
 
   pub turning-more : {before between after : List ℕ} {i n : ℕ} {c d : Bool} → Turning By Closed count before between i c → i < 2 * count
       → n ≡ visitedAt count i → Visited By Closed n between after d → Turning By Closed count before after (i + 1) (c || d)
   turning-more {before} {between} {after} {i} {n} {c} {d} turning below at visited = record {
-    bound = omega arith;
     grown = grown-then (turning .grown) (visited .grown);
     closed = λ e m inside l. closed m inside (or-false c d e) (ℕ-discrete m i) l;
   }

@@ -2,3 +2,4 @@ pub mod Growing
 pub mod Reading
 pub mod Steps
 pub mod Complete
+pub mod Spreading

@@ -9,6 +9,7 @@ use Rattle.book.specs.declared.Node.{Node}
 use Rattle.book.specs.declared.Node.the-variants.{Fail, Empty, Token, Either, Then, Tagged, Ref}
 use Rattle.rules.specs.Rules.{Productive, Nullable, First, Snf, Child, Reach}
 use Rattle.rules.specs.Facts.{Marked}
+use Rattle.rules.specs.Growth.{Sound, Visited, Turned}
 use Rattle.rules.specs.declared.NodeFacts.{NodeFacts}
 
 -- the left of a node, its own number where it has none
@@ -109,6 +110,14 @@ pub record ReachAt (node : ℕ → Node) (start i k : ℕ) : Type 0 where
 pub record ChildClosed (node : ℕ → Node) (marks : List ℕ) (n : ℕ) : Type 0 where
   pub children : (m : ℕ) → Child (node n) m → Marked marks n → Marked marks m
 
--- the set of one kind or of none
+-- a node's children have been marked if it is: from any start, all by reaching
+pub record Spread (node : ℕ → Node) (n : ℕ) (before after : List ℕ) (changed : Bool) : Type 0 where
+  pub from : (start : ℕ) → Sound (ReachAt node start) before → Visited (ReachAt node start) (ChildClosed node) n before after changed
+
+-- the children of all marked nodes have been marked: from any start, all by reaching
+pub record SpreadAll (node : ℕ → Node) (count : ℕ) (before after : List ℕ) (changed : Bool) : Type 0 where
+  pub from : (start : ℕ) → Sound (ReachAt node start) before → Turned (ReachAt node start) (ChildClosed node) count before after changed
+
+-- the set of one place or of none
 abbrev pub markOf : Bool → ℕ → ℕ
 markOf marked k = cond marked (onlyKind k) 0

@@ -2,11 +2,12 @@
 ghost use mathlib.Core.Path.{_≡_};
 ghost use Prim.Native.Nat.{ℕ, _+_, _*_, _/_, _%_, _≤_, _<_};
 ghost use lib.ListN.{length, getD};
+ghost use Rattle.kinds.specs.Kinds.{has?};
 ghost use Rattle.book.specs.Decode.{nodes, GoodNodes};
 ghost use Rattle.rules.specs.Facts.{Facts, Reached, Marked};
 ghost use Rattle.rules.specs.Conflicts.{ConflictAt, LowestConflict};
 ghost use Rattle.rules.specs.Growth.{Sound, Blank, Joined, Grown, Visited, Turned, visitedAt};
-ghost use Rattle.rules.specs.Step.{leftFrom, rightFrom, kindOf, factsAt, ruledOf, FactAt, Given, Holds, RuleClosed, ReachAt, ChildClosed, markOf};
+ghost use Rattle.rules.specs.Step.{leftFrom, rightFrom, kindOf, factsAt, ruledOf, FactAt, Given, Holds, RuleClosed, Spread, SpreadAll, markOf};
 use book::Node;
 
 // The facts of a node: productive and nullable as no kind or all kinds, FIRST and SNF as sets of kinds.
@@ -171,4 +172,68 @@ pub fn least_facts(book: &[u8], base: usize, count: usize, table: &mut [u64])
     ensures { λ _. ⌜ Facts (nodes (now (book .entry)) base count) count (now (table .exit)) ⌝ }
 {
     while turn(book, base, count, table) {}
+}
+
+// Whether a node is marked, 64 nodes to a set.
+fn is_marked(marks: &[u64], n: usize) -> bool
+    requires { ⌜ n / 64 < length (now marks) ⌝ }
+    ensures { λ r. ⌜ r ≡ has? (getD (now (marks .entry)) (n / 64) 0) (n % 64) ⌝ }
+{
+    kinds::has(marks[n / 64], n % 64)
+}
+
+// The set of one place, or the empty set.
+fn mark_of(marked: bool, place: usize) -> u64
+    requires { ⌜ place < 64 ⌝ }
+    ensures { λ r. ⌜ r ≡ markOf marked place ⌝ }
+{
+    if marked { kinds::single(place) } else { 0 }
+}
+
+// Marks a node if told to. Whether the mark is new.
+fn mark(marks: &mut [u64], n: usize, marked: bool) -> bool
+    requires { ⌜ n / 64 < length (now marks) ⌝ }
+    ensures { λ r. ⌜ Joined (now (marks .entry)) (now (marks .exit)) (n / 64) (markOf marked (n % 64)) r ⌝ }
+{
+    grow(marks, n / 64, mark_of(marked, n % 64))
+}
+
+// Marks the children of a node if it is marked. Whether any mark is new.
+fn spread(book: &[u8], base: usize, count: usize, n: usize, marks: &mut [u64]) -> bool
+    requires { ⌜ GoodNodes (now book) base count 64 ⌝ }
+    requires { ⌜ n < count ⌝ }
+    requires { ⌜ 8 ≤ length (now marks) ⌝ }
+    ensures { λ r. ⌜ Spread (nodes (now (book .entry)) base count) n (now (marks .entry)) (now (marks .exit)) r ⌝ }
+{
+    let node = book::node_at(book, base, n);
+    let marked = is_marked(marks, n);
+    let left = mark(marks, left_from(n, node), marked);
+    let right = mark(marks, right_from(n, node), marked);
+    left | right
+}
+
+// Marks the children of every marked node, upward and then downward. Whether any mark is new.
+fn spread_all(book: &[u8], base: usize, count: usize, marks: &mut [u64]) -> bool
+    requires { ⌜ GoodNodes (now book) base count 64 ⌝ }
+    requires { ⌜ 8 ≤ length (now marks) ⌝ }
+    ensures { λ r. ⌜ SpreadAll (nodes (now (book .entry)) base count) count (now (marks .entry)) (now (marks .exit)) r ⌝ }
+{
+    let mut changed = false;
+    let mut i = 0;
+    while i < 2 * count {
+        changed = changed | spread(book, base, count, visited(count, i), marks);
+        i += 1;
+    }
+    changed
+}
+
+// Marks the reachable nodes, in marks that are blank: turns until one changes nothing.
+pub fn reach(book: &[u8], base: usize, count: usize, start: usize, marks: &mut [u64])
+    requires { ⌜ GoodNodes (now book) base count 64 ⌝ }
+    requires { ⌜ start < count ⌝ }
+    requires { ⌜ Blank 8 (now marks) ⌝ }
+    ensures { λ _. ⌜ Reached (nodes (now (book .entry)) base count) start count (now (marks .exit)) ⌝ }
+{
+    mark(marks, start, true);
+    while spread_all(book, base, count, marks) {}
 }
