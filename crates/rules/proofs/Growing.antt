@@ -8,7 +8,7 @@ use native.Mathlib.Decide.{ℕ-discrete, decLt}
 use native.Mathlib.Omega.{arith}
 use borrow.Author.Tests.{eqb-true, eqb-false, not-true, not-false, lt-ltb, le-ltb}
 use lib.Dec.{eqb, ltb}
-use lib.ListN.{length, getD, set, length-set}
+use lib.ListN.{length, getD, set, length-set, replicate, length-replicate}
 use lib.Seq.{getD-set-same, getD-set-other, set-getD}
 use lib.Bits.{or-add-and, and-le-r}
 use Rattle.kinds.specs.Kinds.{Has, joined}
@@ -47,6 +47,19 @@ grown-sound grown sound = record { by = λ i k has. ⊎-elim (sound .by i k) (λ
 
 pub blank-sound : {By : ℕ → ℕ → Type 0} {least : ℕ} {sets : List ℕ} → Blank least sets → Sound By sets
 blank-sound blank = record { by = λ i k has. absurd (none (subst (λ (mask : ℕ). Has mask k) (blank .zeros i) has)) }
+
+-- zeros are blank
+pub blank-zeros : (n : ℕ) → Blank n (replicate n 0)
+blank-zeros n = record { long = omega (arith, length-replicate n 0); zeros = zeros n }
+  where
+    zeros : (n i : ℕ) → getD (replicate n 0) i 0 ≡ 0
+    zeros zero i = refl
+    zeros (suc n) zero = refl
+    zeros (suc n) (suc i) = zeros n i
+
+-- blank sets are blank to a lower length
+pub blank-less : {less least : ℕ} {sets : List ℕ} → less ≤ least → Blank least sets → Blank less sets
+blank-less {less} {least} l blank = record { long = omega (arith, blank .long); zeros = blank .zeros }
 
 pub grown-none : {By : ℕ → ℕ → Type 0} (sets : List ℕ) → Grown By sets sets false
 grown-none sets = record {

@@ -3,3 +3,5 @@ pub mod Reading
 pub mod Steps
 pub mod Complete
 pub mod Spreading
+pub mod Laws
+pub mod Reports

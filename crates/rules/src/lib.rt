@@ -5,10 +5,16 @@ ghost use lib.ListN.{length, getD};
 ghost use Rattle.kinds.specs.Kinds.{has?};
 ghost use Rattle.book.specs.Decode.{nodes, GoodNodes};
 ghost use Rattle.rules.specs.Facts.{Facts, Reached, Marked};
-ghost use Rattle.rules.specs.Conflicts.{ConflictAt, LowestConflict};
+ghost use Rattle.rules.specs.Conflicts.{ConflictAt, Conflicting, LowestConflict};
 ghost use Rattle.rules.specs.Growth.{Sound, Blank, Joined, Grown, Visited, Turned, visitedAt};
-ghost use Rattle.rules.specs.Step.{leftFrom, rightFrom, kindOf, factsAt, ruledOf, FactAt, Given, Holds, RuleClosed, Spread, SpreadAll, markOf};
+ghost use Rattle.rules.specs.Step.{leftFrom, rightFrom, kindOf, factsAt, ruledOf, reportedOf, FactAt, Given, Holds, RuleClosed, Spread, SpreadAll, markOf};
 use book::Node;
+
+// What is answered for a node without a conflict.
+pub const NO_CONFLICT: usize = 64;
+
+// What is answered where both sides of an either are nullable.
+pub const BOTH_NULLABLE: usize = 255;
 
 // The facts of a node: productive and nullable as no kind or all kinds, FIRST and SNF as sets of kinds.
 pub struct NodeFacts {
@@ -236,4 +242,84 @@ pub fn reach(book: &[u8], base: usize, count: usize, start: usize, marks: &mut [
 {
     mark(marks, start, true);
     while spread_all(book, base, count, marks) {}
+}
+
+// What is reported at a node by the facts of its left and right.
+fn reported(node: Node, left: NodeFacts, right: NodeFacts) -> usize
+    ensures { λ r. ⌜ r ≡ reportedOf node left right ⌝ }
+{
+    match node {
+        Node::Fail => NO_CONFLICT,
+        Node::Empty => NO_CONFLICT,
+        Node::Token(_) => NO_CONFLICT,
+        Node::Either(_, _) => {
+            let both = left.nullable & right.nullable;
+            if both == 0 {
+                kinds::lowest(left.first & right.first)
+            } else {
+                BOTH_NULLABLE
+            }
+        }
+        Node::Then(_, _) => kinds::lowest(left.snf & right.first),
+        Node::Tagged(_, _) => NO_CONFLICT,
+        Node::Ref(_) => NO_CONFLICT,
+    }
+}
+
+// The kind reported at a node, or that it has no conflict.
+pub fn conflict_at(book: &[u8], base: usize, count: usize, n: usize, table: &[u64]) -> usize
+    requires { ⌜ GoodNodes (now book) base count 64 ⌝ }
+    requires { ⌜ n < count ⌝ }
+    requires { ⌜ 4 * count ≤ length (now table) ⌝ }
+    requires { ⌜ Facts (nodes (now book) base count) count (now table) ⌝ }
+    ensures { λ r. ⌜ ConflictAt (nodes (now (book .entry)) base count) (nodes (now (book .entry)) base count n) r ⌝ }
+{
+    let node = book::node_at(book, base, n);
+    let left = facts_at(table, left_from(n, node));
+    let right = facts_at(table, right_from(n, node));
+    reported(node, left, right)
+}
+
+// Whether a node is marked and has a conflict.
+fn conflicting(
+    book: &[u8],
+    base: usize,
+    count: usize,
+    n: usize,
+    table: &[u64],
+    marks: &[u64],
+) -> bool
+    requires { ⌜ GoodNodes (now book) base count 64 ⌝ }
+    requires { ⌜ n < count ⌝ }
+    requires { ⌜ 4 * count ≤ length (now table) ⌝ }
+    requires { ⌜ Facts (nodes (now book) base count) count (now table) ⌝ }
+    requires { ⌜ 8 ≤ length (now marks) ⌝ }
+    ensures { λ r. ⌜ Conflicting (nodes (now (book .entry)) base count) (Marked (now (marks .entry))) n r ⌝ }
+{
+    let kind = conflict_at(book, base, count, n, table);
+    is_marked(marks, n) & (kind != NO_CONFLICT)
+}
+
+// The lowest marked node that has a conflict, or the count where none has one.
+pub fn lowest_conflict(
+    book: &[u8],
+    base: usize,
+    count: usize,
+    table: &[u64],
+    marks: &[u64],
+) -> usize
+    requires { ⌜ GoodNodes (now book) base count 64 ⌝ }
+    requires { ⌜ 4 * count ≤ length (now table) ⌝ }
+    requires { ⌜ Facts (nodes (now book) base count) count (now table) ⌝ }
+    requires { ⌜ 8 ≤ length (now marks) ⌝ }
+    ensures { λ r. ⌜ LowestConflict (nodes (now (book .entry)) base count) (Marked (now (marks .entry))) count r ⌝ }
+{
+    let mut n = 0;
+    while n < count {
+        if conflicting(book, base, count, n, table, marks) {
+            return n;
+        }
+        n += 1;
+    }
+    n
 }
