@@ -50,9 +50,9 @@ blank-sound blank = record { by = λ i k has. absurd (none (subst (λ (mask : �
 
 -- zeros are blank
 pub blank-zeros : (n : ℕ) → Blank n (replicate n 0)
-blank-zeros n = record { long = omega (arith, length-replicate n 0); zeros = zeros n }
+blank-zeros n = record { long = omega (arith, length-replicate {A = ℕ} n 0); zeros = zeros n }
   where
-    zeros : (n i : ℕ) → getD (replicate n 0) i 0 ≡ 0
+    zeros : (n i : ℕ) → getD {A = ℕ} (replicate n 0) i 0 ≡ 0
     zeros zero i = refl
     zeros (suc n) zero = refl
     zeros (suc n) (suc i) = zeros n i
