@@ -1,0 +1,4 @@
+pub mod Slots
+pub mod Simulation
+pub mod Records
+pub mod Runs
