@@ -1,9 +1,8 @@
 -- The first number at which a test fails: how a search for it goes on, and what its answer says.
-use mathlib.Core.Path.{_≡_, refl, sym, _∙_}
-use mathlib.Core.Bool.{Bool, true, false, cond}
-use mathlib.Core.Logic.{_⊎_, inl, inr}
+use mathlib.Core.Path.{_≡_, refl}
+use mathlib.Core.Bool.{Bool, true, false}
 use Prim.Native.Nat.{ℕ, zero, suc, _+_, _-_, _≤_, _<_}
-use native.Mathlib.Nat.{le-refl, sub-self}
+use native.Mathlib.Decide.{ℕ-discrete}
 use native.Mathlib.Numerals.{add-one}
 use native.Mathlib.Omega.{arith}
 use Rattle.book.specs.Decode.{firstBad}
@@ -42,3 +41,19 @@ module _ (good : ℕ → Bool) where
       where
         all-done : count - n ≡ 0
         all-done = omega arith
+
+  -- where the search finds none, each number looked at is good
+  first-good : (left n : ℕ) → n + left ≤ firstBad good left n → (m : ℕ) → n ≤ m → m < n + left → good m ≡ true
+  unfolding firstBad
+  first-good zero n past m from below = absurd (omega arith)
+  first-good (suc left) n past m from below = go (good n) refl (λ p f b. first-good left (suc n) p m f b)
+    where
+      go : (b : Bool) → good n ≡ b → (suc n + left ≤ firstBad good left (suc n) → suc n ≤ m → m < suc n + left → good m ≡ true)
+          → good m ≡ true
+      go true is rest =
+          let past-more : n + suc left ≤ firstBad good left (suc n) = rw is at past in
+          elim (ℕ-discrete m n) [ yes same ↦ rw same is | no other ↦ rest (omega arith) (omega arith) (omega arith) ]
+      go false is rest = let stopped : n + suc left ≤ n = rw is at past in absurd (omega arith)
+
+  pub first-none : (count : ℕ) → count ≤ firstBad good count 0 → (n : ℕ) → n < count → good n ≡ true
+  first-none count past n below = first-good count 0 (omega arith) n (omega arith) (omega arith)

@@ -1,2 +1,4 @@
-mod Types
+pub mod Decoded
 pub mod FirstBad
+pub mod Laws
+mod Types

@@ -33,25 +33,25 @@ abbrev pub nodesAt : ℕ
 nodesAt = 18
 
 -- how many nodes a book of a length has
-unfoldable pub countOf : ℕ → ℕ
+abbrev pub countOf : ℕ → ℕ
 countOf size = (size - 18) / 6
 
 -- the length is 18 + 6N for an N from 1 to 512
-unfoldable pub lengthGood : ℕ → Bool
+abbrev pub lengthGood : ℕ → Bool
 lengthGood size = leb 24 size && leb size 3090 && eqb (size % 6) 0
 
 -- a contents entry: section number, offset, length
-unfoldable pub entryIs : List ℕ → ℕ → ℕ → ℕ → ℕ → Bool
+abbrev pub entryIs : List ℕ → ℕ → ℕ → ℕ → ℕ → Bool
 entryIs bytes at section offset size =
     eqb (u16At bytes at) section && eqb (u16At bytes (at + 2)) offset && eqb (u16At bytes (at + 4)) size
 
 -- the contents are those fixed by the length: count 2, settings at 14 of length 4, nodes at 18 of length 6N
-unfoldable pub contentsGood : List ℕ → Bool
+abbrev pub contentsGood : List ℕ → Bool
 contentsGood bytes =
     eqb (u16At bytes 0) 2 && entryIs bytes 2 1 settingsAt 4 && entryIs bytes 8 2 nodesAt (6 * countOf (length bytes))
 
 -- settings at an offset, for a count of nodes: 1 to 64 kinds, and a start among the nodes
-unfoldable pub settingsGood : List ℕ → ℕ → ℕ → Bool
+abbrev pub settingsGood : List ℕ → ℕ → ℕ → Bool
 settingsGood bytes at count =
     leb 1 (u16At bytes at) && leb (u16At bytes at) 64 && ltb (u16At bytes (at + 2)) count
 

@@ -1,4 +1,4 @@
-// Books: nodes, and the form of a book, numbers 1 to 4.
+// Books: nodes, and the form of a book, numbers 1 to 4. The nodes' and settings' tests take an offset, since a plan holds both too.
 ghost use mathlib.Core.Path.{_≡_};
 ghost use Prim.Native.Nat.{_+_, _*_, _-_, _≤_, _<_};
 ghost use lib.ListN.{length};
@@ -100,8 +100,105 @@ pub fn first_bad(bytes: &[u8], base: usize, kinds: usize, count: usize) -> usize
     n
 }
 
-// What a form test answers: done (0) or a refusal's number, with its place.
+// Whether a contents entry is this section, offset and length.
+pub fn entry_is(bytes: &[u8], at: usize, section: usize, offset: usize, size: usize) -> bool
+    requires { ⌜ at + 6 ≤ length (now bytes) ⌝ }
+    ensures { λ r. ⌜ r ≡ entryIs (now (bytes .entry)) at section offset size ⌝ }
+{
+    (u16_at(bytes, at) == section)
+        & (u16_at(bytes, at + 2) == offset)
+        & (u16_at(bytes, at + 4) == size)
+}
+
+// Whether settings at an offset have 1 to 64 kinds and a start among the nodes.
+pub fn settings_good(bytes: &[u8], at: usize, count: usize) -> bool
+    requires { ⌜ at + 4 ≤ length (now bytes) ⌝ }
+    ensures { λ r. ⌜ r ≡ settingsGood (now (bytes .entry)) at count ⌝ }
+{
+    let kinds = u16_at(bytes, at);
+    (1 <= kinds) & (kinds <= 64) & (u16_at(bytes, at + 2) < count)
+}
+
+// Whether a length is that of a book: 18 + 6N for an N from 1 to 512.
+fn length_good(size: usize) -> bool
+    ensures { λ r. ⌜ r ≡ lengthGood size ⌝ }
+{
+    (24 <= size) & (size <= 3090) & (size % 6 == 0)
+}
+
+// How many nodes a book of a length has.
+pub fn count_of(size: usize) -> usize
+    requires { ⌜ 18 ≤ size ⌝ }
+    ensures { λ r. ⌜ r ≡ countOf size ⌝ }
+{
+    (size - NODES_AT) / 6
+}
+
+// Whether a book's contents are those fixed by its length.
+fn contents_good(bytes: &[u8]) -> bool
+    requires { ⌜ 24 ≤ length (now bytes) ⌝ }
+    ensures { λ r. ⌜ r ≡ contentsGood (now (bytes .entry)) ⌝ }
+{
+    let nodes_size = 6 * count_of(bytes.len());
+    (u16_at(bytes, 0) == 2)
+        & entry_is(bytes, 2, 1, SETTINGS_AT, 4)
+        & entry_is(bytes, 8, 2, NODES_AT, nodes_size)
+}
+
+// Where a book's settings and nodes begin.
+pub const SETTINGS_AT: usize = 14;
+
+pub const NODES_AT: usize = 18;
+
+// The answers' numbers.
+pub const DONE: u32 = 0;
+
+pub const LENGTH: u32 = 1;
+
+pub const CONTENTS: u32 = 2;
+
+pub const SETTINGS: u32 = 3;
+
+pub const NODE: u32 = 4;
+
+// What a form test answers: done or a refusal's number, with its place.
 pub struct Judged {
     pub number: u32,
     pub place: u32,
+}
+
+// The form of a book, for any bytes: done, or the first of 1 to 4 that holds against it, with its place.
+pub fn form(bytes: &[u8]) -> Judged
+    ensures { λ r. ⌜ r ≡ formOf (now (bytes .entry)) ⌝ }
+{
+    if !length_good(bytes.len()) {
+        return Judged {
+            number: LENGTH,
+            place: 0,
+        };
+    }
+    if !contents_good(bytes) {
+        return Judged {
+            number: CONTENTS,
+            place: 0,
+        };
+    }
+    let count = count_of(bytes.len());
+    if !settings_good(bytes, SETTINGS_AT, count) {
+        return Judged {
+            number: SETTINGS,
+            place: 0,
+        };
+    }
+    let bad = first_bad(bytes, NODES_AT, u16_at(bytes, SETTINGS_AT), count);
+    if bad < count {
+        return Judged {
+            number: NODE,
+            place: bad as u32,
+        };
+    }
+    Judged {
+        number: DONE,
+        place: 0,
+    }
 }

@@ -1,11 +1,8 @@
+-- `book::node_at` meets its contract: three 16-bit numbers, and the node that they are.
 use Rattle.book.specs.Decode.{nodeAt}
 use borrow.Author.Needs.{needs}
 use Rattle.book.proofs.node_at.Statement.{statement}
 use Rattle.book.proofs.node_at.Tie as tie
-use Rattle.book.proofs.node_at.Reads as reads
-use Rattle.book.proofs.node_at.Lts as lts
-use Rattle.book.proofs.node_of.Reads as node-of-reads
-use Rattle.words.proofs.u16_at.Reads as u16-at-reads
 
 mul-at : tie.Need-mul-at
 mul-at c = search needs

@@ -1,11 +1,8 @@
+-- `book::node_good` meets its contract: three 16-bit numbers, and the type table's test of them.
 use Rattle.book.specs.Decode.{nodeGood}
 use borrow.Author.Needs.{needs}
 use Rattle.book.proofs.node_good.Statement.{statement}
 use Rattle.book.proofs.node_good.Tie as tie
-use Rattle.book.proofs.node_good.Reads as reads
-use Rattle.book.proofs.node_good.Lts as lts
-use Rattle.book.proofs.fields_good.Reads as fields-good-reads
-use Rattle.words.proofs.u16_at.Reads as u16-at-reads
 
 mul-at : tie.Need-mul-at
 mul-at c = search needs

@@ -1,9 +1,8 @@
+-- `words::put_u16` meets its contract: two stores.
 use borrow.Author.Needs.{needs}
 use Rattle.words.specs.Words.{withU16}
 use Rattle.words.proofs.put_u16.Statement.{statement}
 use Rattle.words.proofs.put_u16.Tie as tie
-use Rattle.words.proofs.put_u16.Reads as reads
-use Rattle.words.proofs.put_u16.Lts as lts
 
 cast-bytes : tie.Need-cast-bytes
 cast-bytes c = search needs

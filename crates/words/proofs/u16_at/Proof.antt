@@ -1,10 +1,8 @@
+-- `words::u16_at` meets its contract: two bytes, each below 256.
 use borrow.Author.Needs.{needs}
 use Rattle.words.specs.Words.{u16At}
 use Rattle.words.proofs.u16_at.Statement.{statement}
 use Rattle.words.proofs.u16_at.Tie as tie
-use Rattle.words.proofs.u16_at.Reads as reads
-use Rattle.words.proofs.u16_at.Lts as lts
-use Rattle.words.proofs.wide.Reads as wide-reads
 
 shared-slice-read-wide : tie.Need-shared-slice-read-wide
 shared-slice-read-wide c = search needs

@@ -1,0 +1,53 @@
+-- Laws of the form of a book: what a good length says, and the answer by each test.
+use mathlib.Core.Path.{_≡_}
+use mathlib.Core.Bool.{true, false}
+use mathlib.Core.List.{List}
+use Prim.Native.Nat.{ℕ, _+_, _*_, _%_, _≤_, _<_}
+use native.Mathlib.Omega.{arith}
+use borrow.Author.Tests.{leb-true, eqb-true}
+use lib.ListN.{length}
+use Rattle.words.specs.Words.{u16At}
+use Rattle.words.proofs.Tests.{both}
+use Rattle.book.specs.Decode.{nodeGood, firstBad}
+use Rattle.book.specs.Form.{judged, LENGTH, CONTENTS, SETTINGS, settingsAt, nodesAt, countOf, lengthGood, contentsGood, settingsGood, nodesForm, formOf}
+
+-- a length that is 18 + 6N, for the N that it gives
+pub record Sized (size : ℕ) : Type 0 where
+  pub is : size ≡ 18 + 6 * countOf size
+  pub some-node : 0 < countOf size
+  pub few-nodes : countOf size ≤ 512
+
+pub sized : (size : ℕ) → lengthGood size ≡ true → Sized size
+sized size good =
+    let (ends, whole) = both _ _ good in
+    let (least, most) = both _ _ ends in
+    let at-least : 24 ≤ size = leb-true _ _ least in
+    let at-most : size ≤ 3090 = leb-true _ _ most in
+    let sixes : size % 6 ≡ 0 = eqb-true _ _ whole in
+    record { is = omega arith; some-node = omega arith; few-nodes = omega arith }
+
+-- the nodes that the form test looks at
+abbrev pub bad-node : List ℕ → ℕ
+bad-node bytes =
+    firstBad (nodeGood bytes nodesAt (u16At bytes settingsAt) (countOf (length bytes))) (countOf (length bytes)) 0
+
+-- the answer of the form test, one test after the other
+module _ (bytes : List ℕ) where
+  pub form-length : lengthGood (length bytes) ≡ false → formOf bytes ≡ judged LENGTH 0
+  unfolding formOf
+  form-length bad = rw bad
+
+  module _ (length-good : lengthGood (length bytes) ≡ true) where
+    pub form-contents : contentsGood bytes ≡ false → formOf bytes ≡ judged CONTENTS 0
+    unfolding formOf
+    form-contents bad = rw (length-good, bad)
+
+    module _ (contents-good : contentsGood bytes ≡ true) where
+      pub form-settings : settingsGood bytes settingsAt (countOf (length bytes)) ≡ false → formOf bytes ≡ judged SETTINGS 0
+      unfolding formOf
+      form-settings bad = rw (length-good, contents-good, bad)
+
+      pub form-nodes : settingsGood bytes settingsAt (countOf (length bytes)) ≡ true
+          → formOf bytes ≡ nodesForm (countOf (length bytes)) (bad-node bytes)
+      unfolding formOf
+      form-nodes good = rw (length-good, contents-good, good)

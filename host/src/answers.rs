@@ -1,0 +1,82 @@
+//! The answers: their numbers, and the values that come with them, laid out as C has them.
+
+pub const DONE: u32 = 0;
+pub const LENGTH: u32 = 1;
+pub const CONTENTS: u32 = 2;
+pub const SETTINGS: u32 = 3;
+pub const NODE: u32 = 4;
+pub const BARREN: u32 = 5;
+pub const CONFLICT: u32 = 6;
+pub const PLAN_ROOM: u32 = 7;
+pub const PLAN_FORM: u32 = 8;
+pub const CELL: u32 = 9;
+pub const LONG: u32 = 10;
+pub const DEEP: u32 = 11;
+pub const UNKNOWN: u32 = 12;
+pub const UNEXPECTED: u32 = 13;
+pub const END: u32 = 14;
+pub const RUNAWAY: u32 = 15;
+pub const NO_ROOM: u32 = 16;
+
+/// How many answer numbers there are.
+pub const NUMBERS: usize = 17;
+
+/// The kind given where both sides of an either are nullable.
+pub const BOTH_NULLABLE: u32 = 255;
+
+/// What an empty record has beside its node number.
+pub const EMPTY_RECORD: u16 = 32_768;
+
+/// The answer of the form test of a book.
+#[repr(C)]
+#[derive(Clone, Copy, Debug, PartialEq, Eq)]
+pub struct Formed {
+    pub number: u32,
+    pub place: u32,
+}
+
+/// The answer of compiling.
+#[repr(C)]
+#[derive(Clone, Copy, Debug, PartialEq, Eq)]
+pub struct Compiled {
+    pub number: u32,
+    pub place: u32,
+    pub kind: u32,
+    pub size: u32,
+}
+
+/// The answer of reading.
+#[repr(C)]
+#[derive(Clone, Copy, Debug, PartialEq, Eq)]
+pub struct Reading {
+    pub number: u32,
+    pub place: u32,
+    pub records: u32,
+    pub expected: u64,
+}
+
+/// How often each answer number was given.
+#[derive(Default)]
+pub struct Tally {
+    counts: [usize; NUMBERS],
+}
+
+impl Tally {
+    /// Counts one answer.
+    pub fn count(&mut self, number: u32) {
+        self.counts[number as usize] += 1;
+    }
+
+    /// How many answers were counted.
+    pub fn total(&self) -> usize {
+        self.counts.iter().sum()
+    }
+
+    /// Fails unless each of these numbers was given at least so often.
+    pub fn expect(&self, numbers: &[u32], least: usize) {
+        for &number in numbers {
+            let given = self.counts[number as usize];
+            assert!(given >= least, "answer {number} was given {given} times");
+        }
+    }
+}

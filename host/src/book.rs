@@ -1,0 +1,98 @@
+//! Books as values, and their bytes.
+
+pub const FAIL: u16 = 0;
+pub const EMPTY: u16 = 1;
+pub const TOKEN: u16 = 2;
+pub const EITHER: u16 = 3;
+pub const THEN: u16 = 4;
+pub const TAGGED: u16 = 5;
+pub const REF: u16 = 6;
+
+/// The most nodes that a book has.
+pub const MOST_NODES: usize = 512;
+
+/// The most kinds that a book has.
+pub const MOST_KINDS: usize = 64;
+
+/// Where the nodes begin in a book.
+pub const BOOK_NODES: usize = 18;
+
+/// The bytes of one node.
+pub const NODE_BYTES: usize = 6;
+
+/// A node: its type, left and right.
+#[derive(Clone, Copy, Debug, PartialEq, Eq)]
+pub struct Node {
+    pub form: u16,
+    pub left: u16,
+    pub right: u16,
+}
+
+/// A node of this type, left and right.
+pub fn node(form: u16, left: u16, right: u16) -> Node {
+    Node { form, left, right }
+}
+
+/// A book: the number of kinds, the start node and the nodes.
+#[derive(Clone, Debug, PartialEq, Eq)]
+pub struct Book {
+    pub kinds: u16,
+    pub start: u16,
+    pub nodes: Vec<Node>,
+}
+
+impl Book {
+    /// The book with these nodes that starts at the last.
+    pub fn ending(kinds: u16, nodes: &[(u16, u16, u16)]) -> Book {
+        let nodes: Vec<Node> = nodes.iter().map(|&(f, l, r)| node(f, l, r)).collect();
+        let start = nodes.len() as u16 - 1;
+        Book {
+            kinds,
+            start,
+            nodes,
+        }
+    }
+
+    /// The book's bytes: contents, settings, nodes.
+    pub fn bytes(&self) -> Vec<u8> {
+        let nodes_length = (NODE_BYTES * self.nodes.len()) as u16;
+        let mut words = vec![2, 1, 14, 4, 2, 18, nodes_length];
+        words.extend(self.settings_and_nodes());
+        bytes_of(&words)
+    }
+
+    /// The words of the settings and of the nodes, which books and plans share.
+    pub fn settings_and_nodes(&self) -> Vec<u16> {
+        let mut words = vec![self.kinds, self.start];
+        for node in &self.nodes {
+            words.extend([node.form, node.left, node.right]);
+        }
+        words
+    }
+
+    /// The book whose settings and nodes stand in these bytes, as many nodes as there are.
+    pub fn of(settings_and_nodes: &[u8]) -> Book {
+        let words = words_of(settings_and_nodes);
+        Book {
+            kinds: words[0],
+            start: words[1],
+            nodes: words[2..]
+                .chunks_exact(3)
+                .map(|w| node(w[0], w[1], w[2]))
+                .collect(),
+        }
+    }
+}
+
+/// The bytes of these words, each with its low byte first.
+pub fn bytes_of(words: &[u16]) -> Vec<u8> {
+    words.iter().flat_map(|word| word.to_le_bytes()).collect()
+}
+
+/// The words that stand in these bytes, each with its low byte first.
+pub fn words_of(bytes: &[u8]) -> Vec<u16> {
+    bytes
+        .chunks_exact(2)
+        .map(|pair| u16::from_le_bytes([pair[0], pair[1]]))
+        .collect()
+}

@@ -1,0 +1,249 @@
+//! The compiler, numbers 0 to 7: the rules of figure 5 as least fixpoints over plain sets.
+
+use crate::answers::*;
+use crate::book::*;
+use crate::form::form;
+
+/// A set of kinds: which of them are in it.
+type Kinds = [bool; MOST_KINDS];
+
+/// The set with no kind.
+const NO_KIND: Kinds = [false; MOST_KINDS];
+
+/// What the rules say of each node.
+struct Facts {
+    productive: Vec<bool>,
+    nullable: Vec<bool>,
+    first: Vec<Kinds>,
+    snf: Vec<Kinds>,
+}
+
+/// Compiles a book into the plan buffer.
+pub fn compile(book: &[u8], plan: &mut [u8]) -> Compiled {
+    plan.fill(0);
+    let formed = form(book);
+    if formed.number != DONE {
+        return compiled(formed.number, formed.place, 0, 0);
+    }
+    let book = Book::of(&book[14..]);
+    let facts = facts(&book);
+    if !facts.productive[usize::from(book.start)] {
+        return compiled(BARREN, u32::from(book.start), 0, 0);
+    }
+    if let Some((place, kind)) = lowest_conflict(&book, &facts) {
+        return compiled(CONFLICT, place, kind, 0);
+    }
+    let bytes = plan_by(&book, &facts);
+    if plan.len() < bytes.len() {
+        return compiled(PLAN_ROOM, 0, 0, bytes.len() as u32);
+    }
+    plan[..bytes.len()].copy_from_slice(&bytes);
+    compiled(DONE, 0, 0, bytes.len() as u32)
+}
+
+/// The plan of a well-formed book, whether it passes or not.
+pub fn plan_of(book: &Book) -> Vec<u8> {
+    plan_by(book, &facts(book))
+}
+
+/// An answer of the compiler.
+fn compiled(number: u32, place: u32, kind: u32, size: u32) -> Compiled {
+    Compiled {
+        number,
+        place,
+        kind,
+        size,
+    }
+}
+
+/// The least facts that the rules give.
+fn facts(book: &Book) -> Facts {
+    let productive = least(book, false, productive_by);
+    let nullable = least(book, false, nullable_by);
+    let first = least(book, NO_KIND, |node, first| {
+        first_by(node, first, &productive, &nullable)
+    });
+    let snf = least(book, NO_KIND, |node, snf| {
+        snf_by(node, snf, &productive, &nullable, &first)
+    });
+    Facts {
+        productive,
+        nullable,
+        first,
+        snf,
+    }
+}
+
+/// The least fact of each node under a rule that looks at what is known so far.
+fn least<T: Copy + PartialEq>(book: &Book, none: T, rule: impl Fn(&Node, &[T]) -> T) -> Vec<T> {
+    let mut known = vec![none; book.nodes.len()];
+    loop {
+        let next: Vec<T> = book.nodes.iter().map(|node| rule(node, &known)).collect();
+        if next == known {
+            return known;
+        }
+        known = next;
+    }
+}
+
+/// Whether a node is productive, from what is known so far.
+fn productive_by(node: &Node, known: &[bool]) -> bool {
+    match node.form {
+        EMPTY | TOKEN => true,
+        EITHER => of(known, node.left) || of(known, node.right),
+        THEN => of(known, node.left) && of(known, node.right),
+        TAGGED | REF => of(known, node.left),
+        _ => false,
+    }
+}
+
+/// Whether a node is nullable, from what is known so far.
+fn nullable_by(node: &Node, known: &[bool]) -> bool {
+    match node.form {
+        EMPTY => true,
+        EITHER => of(known, node.left) || of(known, node.right),
+        THEN => of(known, node.left) && of(known, node.right),
+        TAGGED | REF => of(known, node.left),
+        _ => false,
+    }
+}
+
+/// The FIRST set of a node, from what is known so far.
+fn first_by(node: &Node, first: &[Kinds], productive: &[bool], nullable: &[bool]) -> Kinds {
+    match node.form {
+        TOKEN => {
+            let mut kinds = NO_KIND;
+            kinds[usize::from(node.left)] = true;
+            kinds
+        }
+        EITHER => joined(of(first, node.left), of(first, node.right)),
+        THEN => joined(
+            given(of(productive, node.right), of(first, node.left)),
+            given(of(nullable, node.left), of(first, node.right)),
+        ),
+        TAGGED | REF => of(first, node.left),
+        _ => NO_KIND,
+    }
+}
+
+/// The should-not-follow set of a node, from what is known so far.
+fn snf_by(
+    node: &Node,
+    snf: &[Kinds],
+    productive: &[bool],
+    nullable: &[bool],
+    first: &[Kinds],
+) -> Kinds {
+    let (left, right) = (node.left, node.right);
+    match node.form {
+        EITHER => joined(
+            joined(of(snf, left), of(snf, right)),
+            joined(
+                given(of(nullable, right), of(first, left)),
+                given(of(nullable, left), of(first, right)),
+            ),
+        ),
+        THEN => joined(
+            given(of(nullable, right), of(snf, left)),
+            given(of(productive, left), of(snf, right)),
+        ),
+        TAGGED | REF => of(snf, left),
+        _ => NO_KIND,
+    }
+}
+
+/// What is known of a node.
+fn of<T: Copy>(known: &[T], number: u16) -> T {
+    known[usize::from(number)]
+}
+
+/// The kinds in either set.
+fn joined(one: Kinds, other: Kinds) -> Kinds {
+    std::array::from_fn(|kind| one[kind] || other[kind])
+}
+
+/// The set where the condition holds, else no kind.
+fn given(holds: bool, kinds: Kinds) -> Kinds {
+    if holds {
+        kinds
+    } else {
+        NO_KIND
+    }
+}
+
+/// The lowest reachable node with a conflict, and the conflict's kind.
+fn lowest_conflict(book: &Book, facts: &Facts) -> Option<(u32, u32)> {
+    reachable(book)
+        .iter()
+        .enumerate()
+        .filter(|&(_, &reached)| reached)
+        .find_map(|(own, _)| Some((own as u32, conflict(&book.nodes[own], facts)?)))
+}
+
+/// Which nodes are reachable.
+fn reachable(book: &Book) -> Vec<bool> {
+    let mut reached = vec![false; book.nodes.len()];
+    let mut due = vec![book.start];
+    while let Some(own) = due.pop() {
+        if std::mem::replace(&mut reached[usize::from(own)], true) {
+            continue;
+        }
+        let node = book.nodes[usize::from(own)];
+        match node.form {
+            EITHER | THEN => due.extend([node.left, node.right]),
+            TAGGED | REF => due.push(node.left),
+            _ => (),
+        }
+    }
+    reached
+}
+
+/// The kind of a node's conflict, if it has one.
+fn conflict(node: &Node, facts: &Facts) -> Option<u32> {
+    let (left, right) = (node.left, node.right);
+    match node.form {
+        EITHER if of(&facts.nullable, left) && of(&facts.nullable, right) => Some(BOTH_NULLABLE),
+        EITHER => lowest_shared(of(&facts.first, left), of(&facts.first, right)),
+        THEN => lowest_shared(of(&facts.snf, left), of(&facts.first, right)),
+        _ => None,
+    }
+}
+
+/// The lowest kind in both sets.
+fn lowest_shared(one: Kinds, other: Kinds) -> Option<u32> {
+    (0..MOST_KINDS)
+        .find(|&kind| one[kind] && other[kind])
+        .map(|kind| kind as u32)
+}
+
+/// The plan's bytes: contents, settings, nodes, rows.
+fn plan_by(book: &Book, facts: &Facts) -> Vec<u8> {
+    let count = book.nodes.len();
+    let rows = (count * (usize::from(book.kinds) + 1)) as u16;
+    let nodes = (NODE_BYTES * count) as u16;
+    let mut words = vec![3, 1, 20, 4, 2, 24, nodes, 3, 24 + nodes, rows];
+    words.extend(book.settings_and_nodes());
+    let mut bytes = bytes_of(&words);
+    for own in 0..count {
+        bytes.extend((0..usize::from(book.kinds)).map(|kind| cell(book, facts, own, kind)));
+        bytes.push(u8::from(facts.nullable[own]));
+    }
+    bytes
+}
+
+/// The cell of a node for a kind.
+fn cell(book: &Book, facts: &Facts, own: usize, kind: usize) -> u8 {
+    if !facts.first[own][kind] {
+        return 0;
+    }
+    let node = book.nodes[own];
+    let left_begins = || of(&facts.first, node.left)[kind];
+    match node.form {
+        TOKEN => 1,
+        EITHER if left_begins() => 2,
+        EITHER => 5,
+        THEN if of(&facts.nullable, node.left) && !left_begins() => 4,
+        THEN => 3,
+        _ => 2,
+    }
+}

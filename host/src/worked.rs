@@ -1,0 +1,190 @@
+//! The worked examples of document 01, each checked against any implementation of a call.
+
+use crate::answers::*;
+use crate::book::*;
+
+/// The first 18 bytes of the rinse book.
+const RINSE_HEAD: [u8; BOOK_NODES] = [
+    0x02, 0x00, 0x01, 0x00, 0x0E, 0x00, 0x04, 0x00, 0x02, 0x00, 0x12, 0x00, 0x36, 0x00, 0x03, 0x00,
+    0x08, 0x00,
+];
+
+/// The rinse book.
+pub fn rinse() -> Book {
+    Book::ending(
+        3,
+        &[
+            (TOKEN, 0, 0),
+            (TOKEN, 1, 0),
+            (TOKEN, 2, 0),
+            (EMPTY, 0, 0),
+            (REF, 6, 0),
+            (THEN, 1, 4),
+            (EITHER, 5, 3),
+            (THEN, 6, 2),
+            (THEN, 0, 7),
+        ],
+    )
+}
+
+/// Empty, then nodes "then" of the node before twice, 512 in all.
+pub fn doubling() -> Book {
+    let mut nodes = vec![(EMPTY, 0, 0)];
+    nodes.extend((1..MOST_NODES as u16).map(|own| (THEN, own - 1, own - 1)));
+    Book::ending(1, &nodes)
+}
+
+/// Two tokens of one kind, and an either of them.
+pub fn shared_kind() -> Book {
+    Book::ending(1, &[(TOKEN, 0, 0), (TOKEN, 0, 0), (EITHER, 0, 1)])
+}
+
+/// Left recursion that can never produce anything, beside a token.
+pub fn harmless_recursion() -> Book {
+    Book::ending(
+        1,
+        &[
+            (REF, 4, 0),
+            (FAIL, 0, 0),
+            (THEN, 0, 1),
+            (TOKEN, 0, 0),
+            (EITHER, 2, 3),
+        ],
+    )
+}
+
+/// The first conflict book with start 0.
+pub fn shared_kind_aside() -> Book {
+    Book {
+        start: 0,
+        ..shared_kind()
+    }
+}
+
+/// A single node.
+pub fn lone(form: u16) -> Book {
+    Book::ending(1, &[(form, 0, 0)])
+}
+
+/// The rows of the rinse book's plan.
+const RINSE_ROWS: [[u8; 4]; 9] = [
+    [1, 0, 0, 0],
+    [0, 1, 0, 0],
+    [0, 0, 1, 0],
+    [0, 0, 0, 1],
+    [0, 2, 0, 1],
+    [0, 3, 0, 0],
+    [0, 2, 0, 1],
+    [0, 3, 4, 0],
+    [3, 0, 0, 0],
+];
+
+/// Each worked book with the compiler's answer in ample room: number, place, kind, size.
+fn compile_cases() -> Vec<(Book, [u32; 4])> {
+    let both_nullable = [(EMPTY, 0, 0), (EMPTY, 0, 0), (EITHER, 0, 1)];
+    let not_after = [(TOKEN, 0, 0), (EMPTY, 0, 0), (EITHER, 0, 1), (THEN, 2, 0)];
+    let recursion = [
+        (REF, 4, 0),
+        (TOKEN, 0, 0),
+        (THEN, 0, 1),
+        (TOKEN, 1, 0),
+        (EITHER, 2, 3),
+    ];
+    vec![
+        (rinse(), [DONE, 0, 0, 114]),
+        (shared_kind(), [CONFLICT, 2, 0, 0]),
+        (
+            Book::ending(1, &both_nullable),
+            [CONFLICT, 2, BOTH_NULLABLE, 0],
+        ),
+        (Book::ending(1, &not_after), [CONFLICT, 3, 0, 0]),
+        (Book::ending(2, &recursion), [CONFLICT, 4, 1, 0]),
+        (harmless_recursion(), [DONE, 0, 0, 64]),
+        (lone(FAIL), [BARREN, 0, 0, 0]),
+        (lone(REF), [BARREN, 0, 0, 0]),
+        (lone(EMPTY), [DONE, 0, 0, 32]),
+        (doubling(), [DONE, 0, 0, 4_120]),
+        (shared_kind_aside(), [DONE, 0, 0, 48]),
+    ]
+}
+
+/// The bytes of the rinse book's plan.
+fn rinse_plan() -> Vec<u8> {
+    let contents = [3, 1, 20, 4, 2, 24, 54, 3, 78, 36];
+    let mut plan = bytes_of(&contents);
+    plan.extend(&rinse().bytes()[14..]);
+    plan.extend(RINSE_ROWS.concat());
+    plan
+}
+
+/// Checks an implementation of the compiler.
+pub fn check_compile(compile: impl Fn(&[u8], &mut [u8]) -> Compiled) {
+    for (book, [number, place, kind, size]) in compile_cases() {
+        let answer = Compiled {
+            number,
+            place,
+            kind,
+            size,
+        };
+        let mut plan = vec![0xA5; 5_000];
+        assert_eq!(compile(&book.bytes(), &mut plan), answer, "of {book:?}");
+        assert!(plan[size as usize..].iter().all(|&byte| byte == 0));
+        if number == DONE {
+            check_plan_room(&book, size, &compile);
+        }
+    }
+    let mut plan = vec![0xA5; 114];
+    compile(&rinse().bytes(), &mut plan);
+    assert_eq!(plan, rinse_plan());
+}
+
+/// Checks that a plan of this size needs just its room.
+fn check_plan_room(book: &Book, size: u32, compile: impl Fn(&[u8], &mut [u8]) -> Compiled) {
+    for (length, number) in [(size, DONE), (size - 1, PLAN_ROOM), (0, PLAN_ROOM)] {
+        let mut plan = vec![0xA5; length as usize];
+        let answer = compile(&book.bytes(), &mut plan);
+        assert_eq!((answer.number, answer.place), (number, 0), "of {book:?}");
+        assert_eq!((answer.kind, answer.size), (0, size), "of {book:?}");
+        let written = plan.iter().any(|&byte| byte != 0);
+        assert_eq!(written, number == DONE, "of {book:?}");
+    }
+}
+
+/// Checks an implementation of the form test.
+pub fn check_form(form: impl Fn(&[u8]) -> Formed) {
+    assert_eq!(rinse().bytes()[..BOOK_NODES], RINSE_HEAD);
+    for (book, _) in compile_cases() {
+        let answer = form(&book.bytes());
+        assert_eq!((answer.number, answer.place), (DONE, 0), "of {book:?}");
+    }
+    let rinse = rinse().bytes();
+    let changed = |at: usize, to: u8| {
+        let mut bytes = rinse.clone();
+        bytes[at] = to;
+        bytes
+    };
+    let cases = [
+        (rinse[..71].to_vec(), LENGTH, 0),
+        (rinse[..18].to_vec(), LENGTH, 0),
+        (Vec::new(), LENGTH, 0),
+        (rinse[..66].to_vec(), CONTENTS, 0),
+        (changed(0, 3), CONTENTS, 0),
+        (changed(12, 0x30), CONTENTS, 0),
+        (changed(14, 0), SETTINGS, 0),
+        (changed(14, 65), SETTINGS, 0),
+        (changed(16, 9), SETTINGS, 0),
+        (changed(14, 1), NODE, 1),
+        (changed(18, 7), NODE, 0),
+        (changed(44, 9), NODE, 4),
+        (changed(62, 7), NODE, 7),
+        (changed(68, 8), NODE, 8),
+    ];
+    for (bytes, number, place) in cases {
+        let answer = form(&bytes);
+        assert_eq!(
+            (answer.number, answer.place),
+            (number, place),
+            "of {bytes:?}"
+        );
+    }
+}

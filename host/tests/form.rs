@@ -1,0 +1,167 @@
+//! The form test of the proved library against the independent one.
+
+use host::answers::*;
+use host::book::*;
+use host::books::damaged::damaged;
+use host::books::random::Random;
+use host::books::shapes::{any_book, large_book};
+use host::books::small::all_books;
+use host::ffi;
+use host::ffi::lent::{Edge, Lent};
+use host::form::form;
+use host::worked;
+
+/// The longest input that is tried.
+const LONGEST: usize = 4096;
+
+/// Calls both on the same bytes, between closed pages, and compares the answers.
+struct Pair {
+    lent: Lent<u8>,
+    tally: Tally,
+}
+
+impl Pair {
+    fn new() -> Pair {
+        Pair {
+            lent: Lent::new(LONGEST),
+            tally: Tally::default(),
+        }
+    }
+
+    /// Compares both answers to these bytes, which end at a closed page.
+    fn compare(&mut self, bytes: &[u8]) {
+        self.lent.put(bytes, Edge::End);
+        self.judge(bytes, Edge::End);
+    }
+
+    /// Compares both answers to these bytes, which lie at an edge and can only be read.
+    fn compare_sealed(&mut self, bytes: &[u8], edge: Edge) {
+        self.lent.put(bytes, edge);
+        self.lent.seal();
+        self.judge(bytes, edge);
+        self.lent.open();
+    }
+
+    /// Compares both answers to the bytes that lie at an edge of the lent room.
+    fn judge(&mut self, bytes: &[u8], edge: Edge) {
+        let answer = ffi::form::form(self.lent.part(bytes.len(), edge));
+        assert_eq!(answer, form(bytes), "of the book {bytes:?}");
+        self.tally.count(answer.number);
+    }
+}
+
+#[test]
+fn worked_books() {
+    worked::check_form(ffi::form::form);
+}
+
+#[test]
+fn every_small_book() {
+    let mut pair = Pair::new();
+    for (count, kinds) in [(1, 1), (2, 1), (3, 1), (1, 2), (2, 2), (3, 2)] {
+        all_books(count, kinds, &mut |book| pair.compare(&book.bytes()));
+    }
+    assert!(pair.tally.total() > 4_000);
+    pair.tally.expect(&[DONE], pair.tally.total());
+}
+
+#[test]
+fn small_fields_in_two_nodes() {
+    let mut pair = Pair::new();
+    let nodes: Vec<Node> = (0..8 * 3 * 3)
+        .map(|n| node(n / 9, n / 3 % 3, n % 3))
+        .collect();
+    for kinds in [1, 2] {
+        for start in 0..3 {
+            for &first in &nodes {
+                for &second in &nodes {
+                    let nodes = vec![first, second];
+                    let book = Book {
+                        kinds,
+                        start,
+                        nodes,
+                    };
+                    pair.compare(&book.bytes());
+                }
+            }
+        }
+    }
+    assert_eq!(pair.tally.total(), 2 * 3 * 72 * 72);
+    pair.tally.expect(&[DONE], 200);
+    pair.tally.expect(&[SETTINGS, NODE], 4_000);
+}
+
+#[test]
+fn every_length() {
+    let mut pair = Pair::new();
+    let mut random = Random::new(1);
+    let long: Vec<u8> = (0..LONGEST).map(|_| random.below(3) as u8).collect();
+    for length in 0..=LONGEST {
+        let mut bytes = long[..length].to_vec();
+        pair.compare(&bytes);
+        let nodes_length = (length.max(BOOK_NODES) - BOOK_NODES) as u16;
+        let words = [2, 1, 14, 4, 2, 18, nodes_length, 3, 0];
+        for (place, byte) in bytes.iter_mut().zip(bytes_of(&words)) {
+            *place = byte;
+        }
+        let mut fails = bytes.clone();
+        fails.iter_mut().skip(BOOK_NODES).for_each(|b| *b = 0);
+        for edge in [Edge::Begin, Edge::End] {
+            pair.compare_sealed(&bytes, edge);
+            pair.compare_sealed(&fails, edge);
+        }
+    }
+    pair.tally.expect(&[LENGTH], 5 * (LONGEST + 1 - MOST_NODES));
+    pair.tally.expect(&[CONTENTS, NODE], 500);
+    pair.tally.expect(&[DONE], MOST_NODES);
+}
+
+#[test]
+fn every_value_of_each_word() {
+    let mut pair = Pair::new();
+    for form in FAIL..=REF + 1 {
+        let nodes = [
+            (TOKEN, 1, 0),
+            (EMPTY, 0, 0),
+            (form, 0, u16::from(form == TAGGED)),
+            (THEN, 0, 1),
+        ];
+        let book = Book::ending(2, &nodes).bytes();
+        let words: Vec<usize> = if form == FAIL {
+            (0..book.len() / 2).collect()
+        } else {
+            vec![15, 16, 17]
+        };
+        for word in words {
+            let mut bytes = book.clone();
+            for value in 0..=u16::MAX {
+                bytes[2 * word..2 * word + 2].copy_from_slice(&value.to_le_bytes());
+                pair.compare(&bytes);
+            }
+        }
+    }
+    pair.tally.expect(&[DONE], 65_536);
+    pair.tally.expect(&[CONTENTS], 7 * 65_535);
+    pair.tally.expect(&[SETTINGS, NODE], 65_000);
+}
+
+#[test]
+fn random_books_and_damaged_ones() {
+    let mut pair = Pair::new();
+    let mut random = Random::new(2);
+    for round in 0..200_000 {
+        let book = if round % 50 == 0 {
+            large_book(&mut random)
+        } else {
+            any_book(&mut random)
+        };
+        let mut bytes = book.bytes();
+        for _ in 0..random.below(3) {
+            bytes = damaged(&mut random, &bytes);
+        }
+        let edge = random.pick(&[Edge::Begin, Edge::End]);
+        pair.compare_sealed(&bytes[..bytes.len().min(LONGEST)], edge);
+    }
+    pair.tally
+        .expect(&[DONE, LENGTH, CONTENTS, SETTINGS, NODE], 4_000);
+}
