@@ -1,2 +1,3 @@
 mod Columns
+pub mod Laws
 mod Rows

@@ -69,18 +69,25 @@ planFrom bytes count kinds free =
 abbrev pub planOf : List ℕ → (ℕ → Bool) → Plan
 planOf bytes free = planFrom bytes (planCount bytes) (planKinds bytes) free
 
+-- a plan's length is that of its nodes and kinds, for 1 to 512 nodes
+abbrev pub sizeGood : ℕ → ℕ → ℕ → Bool
+sizeGood size count kinds = eqb size (planSize count kinds) && leb 1 count && leb count 512
+
 -- the contents of a plan: count 3, settings at 20 of length 4, nodes at 24 of length 6N, rows at 24 + 6N of length N(K + 1)
 abbrev pub planContentsGood : List ℕ → ℕ → ℕ → Bool
 planContentsGood bytes count kinds =
     eqb (u16At bytes 0) 3 && entryIs bytes 2 1 planSettingsAt 4 && entryIs bytes 8 2 planNodesAt (6 * count)
     && entryIs bytes 14 3 (rowsAt count) (count * (kinds + 1))
 
--- the form of a plan of 1 to 512 nodes: its length, contents, settings and nodes
+-- whether all nodes of a plan are as the type table has them
+abbrev pub planNodesGood : List ℕ → ℕ → ℕ → Bool
+planNodesGood bytes count kinds = leb count (firstBad (nodeGood bytes planNodesAt kinds count) count 0)
+
+-- the form of a plan: its length, contents, settings and nodes
 unfoldable pub planGood : List ℕ → ℕ → ℕ → Bool
 planGood bytes count kinds =
-    eqb (length bytes) (planSize count kinds) && leb 1 count && leb count 512 && planContentsGood bytes count kinds
-    && settingsGood bytes planSettingsAt count
-    && leb count (firstBad (nodeGood bytes planNodesAt kinds count) count 0)
+    sizeGood (length bytes) count kinds
+    && (planContentsGood bytes count kinds && settingsGood bytes planSettingsAt count && planNodesGood bytes count kinds)
 
 -- the cells for kinds that a node's type has beside 0: fail and empty none; token 1; either 2 and 5; then 3 and 4; tagged and ref 2
 abbrev pub oneCell : Node → ℕ

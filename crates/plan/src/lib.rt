@@ -3,9 +3,14 @@ ghost use mathlib.Core.Path.{_≡_};
 ghost use Prim.Native.Nat.{_+_, _*_, _-_, _≤_, _<_};
 ghost use lib.ListN.{length};
 ghost use Rattle.plan.specs.Form.{oneCell, otherCell, badColumn, planSize, cellsJudged};
+ghost use Rattle.plan.specs.Form.{sizeGood, planContentsGood, planGood, planJudged};
 use book::Judged;
 use book::Node;
+use book::entry_is;
+use book::first_bad;
 use book::node_at;
+use book::settings_good;
+use words::u16_at;
 use words::wide;
 
 // Where a plan's settings and nodes begin.
@@ -88,7 +93,60 @@ fn judge_cells(plan: &[u8], count: usize, kinds: usize) -> Judged
         n += 1;
     }
     Judged {
-        number: 0,
+        number: book::DONE,
         place: 0,
     }
+}
+
+// Whether a plan's length is that of its nodes and kinds, for 1 to 512 nodes.
+fn size_good(size: usize, count: usize, kinds: usize) -> bool
+    requires { ⌜ (count < 65536) × (kinds < 65536) ⌝ }
+    ensures { λ r. ⌜ r ≡ sizeGood size count kinds ⌝ }
+{
+    (size == NODES_AT + 6 * count + count * (kinds + 1)) & (1 <= count) & (count <= 512)
+}
+
+// Whether a plan's contents are those fixed by its nodes and kinds.
+fn plan_contents_good(plan: &[u8], count: usize, kinds: usize) -> bool
+    requires { ⌜ (planSize count kinds ≤ length (now plan)) × (kinds < 65536) ⌝ }
+    ensures { λ r. ⌜ r ≡ planContentsGood (now (plan .entry)) count kinds ⌝ }
+{
+    (u16_at(plan, 0) == 3)
+        & entry_is(plan, 2, 1, SETTINGS_AT, 4)
+        & entry_is(plan, 8, 2, NODES_AT, 6 * count)
+        & entry_is(plan, 14, 3, NODES_AT + 6 * count, count * (kinds + 1))
+}
+
+// Whether a plan's length, contents, settings and nodes are good.
+fn plan_good(plan: &[u8], count: usize, kinds: usize) -> bool
+    requires { ⌜ (count < 65536) × (kinds < 65536) ⌝ }
+    ensures { λ r. ⌜ r ≡ planGood (now (plan .entry)) count kinds ⌝ }
+{
+    if !size_good(plan.len(), count, kinds) {
+        return false;
+    }
+    plan_contents_good(plan, count, kinds)
+        & settings_good(plan, SETTINGS_AT, count)
+        & (count <= first_bad(plan, NODES_AT, kinds, count))
+}
+
+// A plan's form, for any bytes: done, or the first of 8 and 9 that holds against it, with its place.
+pub fn judge(plan: &[u8]) -> Judged
+    ensures { λ r. ⌜ r ≡ planJudged (now (plan .entry)) ⌝ }
+{
+    if plan.len() < NODES_AT {
+        return Judged {
+            number: PLAN_FORM,
+            place: 0,
+        };
+    }
+    let count = u16_at(plan, 12) / 6;
+    let kinds = u16_at(plan, SETTINGS_AT);
+    if !plan_good(plan, count, kinds) {
+        return Judged {
+            number: PLAN_FORM,
+            place: 0,
+        };
+    }
+    judge_cells(plan, count, kinds)
 }

@@ -9,8 +9,6 @@ use Rattle.plan.specs.Form.{columnGood, badColumn}
 use Rattle.plan.proofs.Columns.{kind-column, last-column, at-last}
 use Rattle.plan.proofs.bad_column.Statement.{statement}
 use Rattle.plan.proofs.bad_column.Tie as tie
-use Rattle.plan.proofs.bad_column.Reads as reads
-use Rattle.plan.proofs.bad_column.Lts as lts
 
 abbrev Inv-loop : tie.InvT-loop
 Inv-loop plan at kinds one other column₀ column = Searched (columnGood plan at kinds one other) (kinds + 1) column × (column ≤ kinds)

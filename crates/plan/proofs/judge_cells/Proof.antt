@@ -8,12 +8,6 @@ use Rattle.plan.specs.Form.{rowsAt, badIn}
 use Rattle.plan.proofs.Rows.{RowsSearched, rows-none, found-is, rows-more, rows-bad, rows-all, row-within}
 use Rattle.plan.proofs.judge_cells.Statement.{statement}
 use Rattle.plan.proofs.judge_cells.Tie as tie
-use Rattle.plan.proofs.judge_cells.Reads as reads
-use Rattle.plan.proofs.judge_cells.Lts as lts
-use Rattle.book.proofs.node_at.Reads as node-at-reads
-use Rattle.plan.proofs.bad_column.Reads as bad-column-reads
-use Rattle.plan.proofs.one_cell.Reads as one-cell-reads
-use Rattle.plan.proofs.other_cell.Reads as other-cell-reads
 
 abbrev Inv-loop : tie.InvT-loop
 Inv-loop plan count kinds rows at₀ n₀ at n = (rows ≡ rowsAt count) × RowsSearched count kinds plan at n
