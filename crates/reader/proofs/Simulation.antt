@@ -11,8 +11,8 @@ use lib.Seq.{sets}
 use Rattle.book.specs.Form.{DONE}
 use Rattle.plan.specs.Running.{Plan, emptied, Step, taken, refused, deep, runaway, noted, pick, visit, takeOff, walk, event}
 use Rattle.reader.specs.Numbers.{DEEP, UNKNOWN, UNEXPECTED, END, RUNAWAY}
-use Rattle.reader.specs.Machine.{After, Go, stands, stack, visitOf, offOf, walkOf, takeOf, eventOf}
-use Rattle.reader.proofs.Slots.{Held, stack-length, stack-held, held-more, held-less}
+use Rattle.reader.specs.Machine.{After, Held, Go, stands, stack, visitOf, offOf, walkOf, takeOf, eventOf}
+use Rattle.reader.proofs.Slots.{stack-length, stack-held, held-more, held-less}
 
 module _ (nodes slots : ℕ) where
   -- an event taken: the parts held are those in the slots, the records are stored from where the tree was written up to

@@ -7,13 +7,7 @@ use native.Mathlib.Omega.{arith}
 use native.Mathlib.Decide.{ℕ-discrete}
 use lib.ListN.{length, getD, set, length-set}
 use lib.Seq.{getD-set-same, getD-set-other}
-use Rattle.reader.specs.Machine.{stack}
-
--- parts held in the first so many of the slots, each a node below a count of nodes
-pub record Held (nodes slots : ℕ) (held : List ℕ) (count : ℕ) : Type 0 where
-  pub long : length held ≡ slots
-  pub few : count ≤ slots
-  pub below : (i : ℕ) → i < count → getD held i 0 < nodes
+use Rattle.reader.specs.Machine.{stack, Held}
 
 pub stack-length : (held : List ℕ) (count : ℕ) → length (stack held count) ≡ count
 unfolding stack

@@ -1,12 +1,13 @@
 -- The machine on slots and a tree, by the same steps as the code. Storing past the end of a list changes nothing, so the tree's room
 -- appears nowhere.
-use Prim.Native.Nat.{ℕ, zero, suc}
+use Prim.Native.Nat.{ℕ, zero, suc, _≤_, _<_}
+use mathlib.Core.Path.{_≡_}
 use mathlib.Core.Bool.{Bool, true, false, cond}
 use mathlib.Core.List.{List, [], _∷_}
 use lib.Dec.{ltb, eqb}
 use lib.ListN.{length, getD, set}
 use Rattle.book.specs.Form.{DONE}
-use Rattle.plan.specs.Running.{Plan, emptied, expected}
+use Rattle.plan.specs.Running.{Plan, emptied, expected, rowFirst}
 use Rattle.reader.specs.declared.Spot.{Spot}
 use Rattle.reader.specs.declared.Reading.{Reading}
 use Rattle.reader.specs.Numbers.{DEEP, UNKNOWN, UNEXPECTED, END, RUNAWAY}
@@ -27,6 +28,17 @@ stands number count written held tree = after (record { number = number; count =
 unfoldable pub stack : List ℕ → ℕ → List ℕ
 stack held zero = []
 stack held (suc count) = getD held count 0 ∷ stack held count
+
+-- the part held last; 0 where none is held
+unfoldable pub lastOf : List ℕ → ℕ → ℕ
+lastOf held zero = 0
+lastOf held (suc count) = getD held count 0
+
+-- parts held in the first so many of the slots, each a node below a count of nodes
+pub record Held (nodes slots : ℕ) (held : List ℕ) (count : ℕ) : Type 0 where
+  pub long : length held ≡ slots
+  pub few : count ≤ slots
+  pub below : (i : ℕ) → i < count → getD held i 0 < nodes
 
 -- how a walk goes on from a node, with so many parts held and records written, the slots and the tree
 abbrev pub Go : Type 0
@@ -101,6 +113,11 @@ onOf s rest at kinds =
     (ended (refusal (s .spot .number) at kinds) (s .held) (s .tree))
 
 module _ (p : Plan) where
+  -- the kinds expected where so many parts are held, this one last
+  unfoldable pub expectedOf : ℕ → ℕ → ℕ
+  expectedOf zero last = 0
+  expectedOf (suc count) last = rowFirst p last (p .kinds)
+
   -- the end: all held parts are taken off in turn
   unfoldable pub finishOf : ℕ → ℕ → List ℕ → List ℕ → After
   finishOf zero written held tree = stands DONE zero written held tree
