@@ -4,3 +4,5 @@ pub mod Records
 pub mod Runs
 pub mod Plans
 mod Walks
+mod Takes
+mod Rows

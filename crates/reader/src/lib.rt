@@ -5,7 +5,7 @@ ghost use lib.ListN.{length, set};
 ghost use Rattle.book.specs.Decode.{leftAt, rightAt};
 ghost use Rattle.plan.specs.Running.{rowFirst};
 ghost use Rattle.plan.specs.Form.{planNodesAt, cellAt};
-ghost use Rattle.reader.specs.Machine.{Held, after, ended, lastOf, expectedOf, walkOf, eventOf, finishOf, readsOf, refusal};
+ghost use Rattle.reader.specs.Machine.{Held, after, ended, lastOf, expectedOf, walkOf, eventOf, finishOf, readsOf, told, refusal};
 ghost use Rattle.reader.specs.Ready.{onSlots, Runnable, Ready};
 ghost use Rattle.reader.specs.Reads.{Reads, outcome, settledOf};
 use book::DONE;
@@ -146,5 +146,159 @@ fn walk(
         number: RUNAWAY,
         count: parts,
         written: records,
+    }
+}
+
+// One event: the part held last is taken off, until one walks or the event is refused.
+pub fn event(
+    plan: &[u8],
+    nodes: usize,
+    kinds: usize,
+    kind: usize,
+    count: usize,
+    written: usize,
+    held: &mut [u16],
+    tree: &mut [u16],
+) -> Spot
+    requires { ⌜ Ready (now plan) nodes kinds count written (now held) ⌝ }
+    ensures {
+        λ r. ⌜ after r (now (held .exit)) (now (tree .exit)) ≡ eventOf (onSlots (now (plan .entry)) nodes kinds (length (now (held .entry)))) kind count written (now (held .entry)) (now (tree .entry)) ⌝
+    }
+{
+    if kinds <= kind {
+        return Spot {
+            number: UNKNOWN,
+            count: count,
+            written: written,
+        };
+    }
+    let mut parts = count;
+    let mut records = written;
+    while 0 < parts {
+        parts -= 1;
+        let node = held[parts] as usize;
+        if cell_at(plan, nodes, kinds, node, kind) != 0 {
+            return walk(plan, nodes, kinds, kind, node, parts, records, held, tree);
+        }
+        if cell_at(plan, nodes, kinds, node, kinds) != 1 {
+            return Spot {
+                number: UNEXPECTED,
+                count: parts,
+                written: records,
+            };
+        }
+        note(tree, records, node + EMPTY);
+        records += 1;
+    }
+    Spot {
+        number: UNEXPECTED,
+        count: 0,
+        written: records,
+    }
+}
+
+// The end: all held parts are taken off in turn.
+fn finish(
+    plan: &[u8],
+    nodes: usize,
+    kinds: usize,
+    count: usize,
+    written: usize,
+    held: &[u16],
+    tree: &mut [u16],
+) -> Spot
+    requires { ⌜ Ready (now plan) nodes kinds count written (now held) ⌝ }
+    ensures {
+        λ r. ⌜ after r (now (held .entry)) (now (tree .exit)) ≡ finishOf (onSlots (now (plan .entry)) nodes kinds (length (now (held .entry)))) count written (now (held .entry)) (now (tree .entry)) ⌝
+    }
+{
+    let mut parts = count;
+    let mut records = written;
+    while 0 < parts {
+        parts -= 1;
+        let node = held[parts] as usize;
+        if cell_at(plan, nodes, kinds, node, kinds) != 1 {
+            return Spot {
+                number: END,
+                count: parts,
+                written: records,
+            };
+        }
+        note(tree, records, node + EMPTY);
+        records += 1;
+    }
+    Spot {
+        number: DONE,
+        count: 0,
+        written: records,
+    }
+}
+
+// The kinds of a node's row whose cells are not 0.
+fn row_first(plan: &[u8], nodes: usize, kinds: usize, node: usize) -> u64
+    requires { ⌜ (Runnable (now plan) nodes kinds) × (node < nodes) ⌝ }
+    ensures { λ r. ⌜ r ≡ rowFirst (onSlots (now (plan .entry)) nodes kinds 0) node kinds ⌝ }
+{
+    let mut first = 0;
+    let mut kind = 0;
+    while kind < kinds {
+        if cell_at(plan, nodes, kinds, node, kind) != 0 {
+            first += single(kind);
+        }
+        kind += 1;
+    }
+    first
+}
+
+// The part held last; 0 where none is held.
+fn last_part(held: &[u16], count: usize) -> usize
+    requires { ⌜ count ≤ length (now held) ⌝ }
+    ensures { λ r. ⌜ r ≡ lastOf (now (held .entry)) count ⌝ }
+{
+    if count == 0 {
+        return 0;
+    }
+    held[count - 1] as usize
+}
+
+// The kinds that a refusal tells, where so many parts were held, this one last.
+fn expected_at(plan: &[u8], nodes: usize, kinds: usize, number: u32, count: usize, last: usize) -> u64
+    requires { ⌜ (Runnable (now plan) nodes kinds) × (last < nodes) ⌝ }
+    ensures {
+        λ r. ⌜ r ≡ told number (expectedOf (onSlots (now (plan .entry)) nodes kinds 0) count last) ⌝
+    }
+{
+    if number == DEEP {
+        return 0;
+    }
+    if number == RUNAWAY {
+        return 0;
+    }
+    if count == 0 {
+        return 0;
+    }
+    row_first(plan, nodes, kinds, last)
+}
+
+// A refusal at a place, where so many parts were held, this one last.
+fn refuse(
+    plan: &[u8],
+    nodes: usize,
+    kinds: usize,
+    number: u32,
+    at: usize,
+    count: usize,
+    last: usize,
+) -> Reading
+    requires { ⌜ (Runnable (now plan) nodes kinds) × (last < nodes) × (at < 65536) ⌝ }
+    ensures {
+        λ r. ⌜ r ≡ refusal number at (expectedOf (onSlots (now (plan .entry)) nodes kinds 0) count last) ⌝
+    }
+{
+    Reading {
+        number: number,
+        place: at as u32,
+        records: 0,
+        expected: expected_at(plan, nodes, kinds, number, count, last),
     }
 }
