@@ -6,3 +6,4 @@ pub mod Plans
 mod Walks
 mod Takes
 mod Rows
+mod Goes

@@ -16,7 +16,7 @@ pub data Within (b : ℕ) : Step → Type 0 where
   deep-within : Within b deep
   runaway-within : Within b runaway
 
-within-more : {b : ℕ} {step : Step} (more : ℕ) → b ≤ more → Within b step → Within more step
+pub within-more : {b : ℕ} {step : Step} (more : ℕ) → b ≤ more → Within b step → Within more step
 within-more more le (taken-within held records few) = taken-within held records (omega arith)
 within-more more le refused-within = refused-within
 within-more more le deep-within = deep-within

@@ -9,7 +9,8 @@ use lib.ListN.{length, getD}
 use lib.Pow.{pow-mono, pow-pos}
 use Rattle.plan.specs.Running.{Plan, takenCell, rowFirst, expected}
 use Rattle.plan.specs.Form.{planFrom}
-use Rattle.reader.specs.Machine.{Held, stack, lastOf, expectedOf}
+use Rattle.reader.specs.Machine.{Held, stack, lastOf, expectedOf, refusal}
+use Rattle.reader.specs.declared.Reading.{Reading}
 use Rattle.reader.specs.Ready.{onSlots}
 
 -- the part held last stands in the slot below the count
@@ -73,3 +74,9 @@ pub expected-is : (bytes : List ℕ) (nodes kinds slots : ℕ) (held : List ℕ)
 unfolding expectedOf expected stack lastOf planFrom
 expected-is bytes nodes kinds slots held zero = refl
 expected-is bytes nodes kinds slots held (suc count) = row-slots bytes nodes kinds 0 slots (getD held count 0) kinds
+
+-- a refusal by the last part is one by the held list
+pub refusal-is : (bytes : List ℕ) (nodes kinds slots : ℕ) (held : List ℕ) (number at count last : ℕ) {r : Reading}
+  → r ≡ refusal number at (expectedOf (onSlots bytes nodes kinds 0) count last) → last ≡ lastOf held count
+  → r ≡ refusal number at (expected (onSlots bytes nodes kinds slots) (stack held count))
+refusal-is bytes nodes kinds slots held number at count last is last-is = is ∙ rw (last-is, expected-is bytes nodes kinds slots held count) refl

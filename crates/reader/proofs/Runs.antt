@@ -12,10 +12,10 @@ use lib.Seq.{sets}
 use Rattle.book.specs.Form.{DONE}
 use Rattle.plan.specs.Running.{Plan, emptied, Step, taken, refused, deep, runaway, pick, event, expected, Answer, accepted, deep-at, unknown-at, unexpected-at, end-at, runaway-at, logged, onward, finish, reads}
 use Rattle.reader.specs.Numbers.{DEEP, UNKNOWN, UNEXPECTED, END, RUNAWAY}
-use Rattle.reader.specs.Machine.{After, Held, Ended, stands, answered, refusal, ended, stack, takeOf, eventOf, onOf, finishOf, readsOf}
+use Rattle.reader.specs.Machine.{After, Held, Ended, stands, answered, refusal, ended, stack, takeOf, eventOf, onOf, finishOf, closeOf, readsOf}
 use Rattle.reader.proofs.Slots.{stack-length, held-less}
 use Rattle.reader.proofs.Simulation.{Took, Stepped, as-taken, as-refused, as-deep, as-runaway, Bounded, take-same}
-use Rattle.reader.proofs.Records.{Within, taken-within, refused-within, deep-within, runaway-within, event-within}
+use Rattle.reader.proofs.Records.{Within, taken-within, refused-within, deep-within, runaway-within, within-more, event-within}
 
 -- records stored after records are stored together
 pub sets-append : (tree : List ℕ) (written : ℕ) (records more : List ℕ)
@@ -26,6 +26,11 @@ sets-append tree written (r ∷ records) more =
   where
     shift : written + suc (length records) ≡ suc written + length records
     shift = omega arith
+
+-- the parts held are nodes, and records and parts are fewer than a number
+pub record Safe (nodes slots most : ℕ) (s : After) : Type 0 where
+  pub parts : Held nodes slots (s .held) (s .spot .count)
+  pub records : s .spot .written + s .spot .count < most
 
 -- what a run comes to, in both machines: an accepted run's place is its length, its records are stored; a refusal's answer is told
 module _ (p : Plan) where
@@ -90,7 +95,7 @@ module _ (p : Plan) where
     -- a run from a place on
     pub reads-same : (at : ℕ) (run : List ℕ) (count written : ℕ) (held tree : List ℕ) → Held (p .count) slots held count
       → Ends tree written (at + length run) (reads p at (stack held count) run) (readsOf p at run count written held tree)
-    unfolding reads readsOf eventOf onOf
+    unfolding reads readsOf closeOf eventOf onOf
     reads-same at [] count written held tree h = rw (add-zero at) (finish-same at count written (stack held count) held tree h)
     reads-same at (k ∷ run) count written held tree h =
         by-kind (ltb k (p .kinds)) (λ c w h′ t safe. rw (next) (reads-same (suc at) run c w h′ t safe))
@@ -105,3 +110,38 @@ module _ (p : Plan) where
         by-kind true rest =
             on-same at (stack held count) (λ l. reads p (suc at) l run) (λ c w h′ t. readsOf p (suc at) run c w h′ t) rest (take-same p slots b k count written held tree h)
         by-kind false rest = as-unknown-at refl
+
+    -- an event taken leaves parts that are nodes, and few records
+    module _ (k count written : ℕ) (held tree : List ℕ) (h : Held (p .count) slots held count) where
+      stack-within : (c : ℕ) → Within (c + 2 * p .count - 1) (event p k (stack held c))
+      unfolding stack event
+      stack-within zero = refused-within
+      stack-within (suc c) = within-more _ (omega (arith, stack-length held c)) (event-within p k (getD held c 0) (stack held c))
+
+      counted : {step : Step} {s : After} {most : ℕ} → Stepped (p .count) slots tree written step s → Within most step → s .spot .number ≡ DONE
+        → Safe (p .count) slots (written + most) s
+      counted {s = s} (as-taken t) (taken-within l records few) is =
+          record { parts = t .safe; records = omega (arith, t .length-is, ap length (t .parts), stack-length (s .held) (s .spot .count)) }
+      counted (as-refused e) refused-within is = absurd (omega arith)
+      counted (as-deep e) deep-within is = absurd (omega arith)
+      counted (as-runaway e) runaway-within is = absurd (omega arith)
+
+      pub event-safe : eventOf p k count written held tree .spot .number ≡ DONE
+        → Safe (p .count) slots (written + (count + 2 * p .count - 1)) (eventOf p k count written held tree)
+      unfolding eventOf
+      event-safe = by-kind (ltb k (p .kinds))
+        where
+          by-kind : (known : Bool) → cond known (takeOf p k count written held tree) (stands UNKNOWN count written held tree) .spot .number ≡ DONE
+            → Safe (p .count) slots (written + (count + 2 * p .count - 1)) (cond known (takeOf p k count written held tree) (stands UNKNOWN count written held tree))
+          by-kind true is = counted (take-same p slots b k count written held tree h) (stack-within count) is
+          by-kind false is = absurd (omega arith)
+
+  -- the end writes a record for each part held, at most
+  pub finish-few : (count written : ℕ) (held tree : List ℕ) → finishOf p count written held tree .spot .written ≤ written + count
+  unfolding finishOf
+  finish-few zero written held tree = omega arith
+  finish-few (suc count) written held tree = by-null (p .null (getD held count 0)) _ (finish-few count (suc written) held (set tree written (emptied (getD held count 0))))
+    where
+      by-null : (null : Bool) (s : After) → s .spot .written ≤ suc written + count → cond null s (stands END count written held tree) .spot .written ≤ written + suc count
+      by-null true s few = omega arith
+      by-null false s few = omega arith

@@ -126,11 +126,15 @@ module _ (p : Plan) where
       cond (p .null n) (finishOf count (suc written) held (set tree written (emptied n)))
       (stands END count written held tree)
 
-  -- a run from a place on, with so many parts held and records written
-  unfoldable pub readsOf : ℕ → List ℕ → ℕ → ℕ → List ℕ → List ℕ → Ended
-  readsOf at [] count written held tree =
+  -- the end of a run, at a place
+  unfoldable pub closeOf : ℕ → ℕ → ℕ → List ℕ → List ℕ → Ended
+  closeOf at count written held tree =
       onOf (finishOf count written held tree) (λ c w h t. ended (answered DONE at w 0) h t) at
       (expected p (stack held count))
+
+  -- a run from a place on, with so many parts held and records written
+  unfoldable pub readsOf : ℕ → List ℕ → ℕ → ℕ → List ℕ → List ℕ → Ended
+  readsOf at [] count written held tree = closeOf at count written held tree
   readsOf at (k ∷ run) count written held tree =
       onOf (eventOf p k count written held tree) (λ c w h t. readsOf (suc at) run c w h t) at
       (expected p (stack held count))

@@ -5,7 +5,7 @@ ghost use lib.ListN.{length, set};
 ghost use Rattle.book.specs.Decode.{leftAt, rightAt};
 ghost use Rattle.plan.specs.Running.{rowFirst};
 ghost use Rattle.plan.specs.Form.{planNodesAt, cellAt};
-ghost use Rattle.reader.specs.Machine.{Held, after, ended, lastOf, expectedOf, walkOf, eventOf, finishOf, readsOf, told, refusal};
+ghost use Rattle.reader.specs.Machine.{Held, after, ended, lastOf, expectedOf, walkOf, eventOf, finishOf, closeOf, readsOf, told, refusal};
 ghost use Rattle.reader.specs.Ready.{onSlots, Runnable, Ready};
 ghost use Rattle.reader.specs.Reads.{Reads, outcome, settledOf};
 use book::DONE;
@@ -301,4 +301,67 @@ fn refuse(
         records: 0,
         expected: expected_at(plan, nodes, kinds, number, count, last),
     }
+}
+
+// The end of a run, at a place.
+fn close(
+    plan: &[u8],
+    nodes: usize,
+    kinds: usize,
+    at: usize,
+    count: usize,
+    written: usize,
+    held: &[u16],
+    tree: &mut [u16],
+) -> Reading
+    requires {
+        ⌜ (Ready (now plan) nodes kinds count written (now held)) × (at < 65536) ⌝
+    }
+    ensures {
+        λ r. ⌜ ended r (now (held .entry)) (now (tree .exit)) ≡ closeOf (onSlots (now (plan .entry)) nodes kinds (length (now (held .entry)))) at count written (now (held .entry)) (now (tree .entry)) ⌝
+    }
+{
+    let last = last_part(held, count);
+    let spot = finish(plan, nodes, kinds, count, written, held, tree);
+    if spot.number != DONE {
+        return refuse(plan, nodes, kinds, spot.number, at, count, last);
+    }
+    Reading {
+        number: DONE,
+        place: at as u32,
+        records: spot.written as u32,
+        expected: 0,
+    }
+}
+
+// The run: each event in turn, then the end.
+fn events(
+    plan: &[u8],
+    nodes: usize,
+    kinds: usize,
+    run: &[u8],
+    held: &mut [u16],
+    tree: &mut [u16],
+) -> Reading
+    requires {
+        ⌜ (Ready (now plan) nodes kinds 1 0 (now held)) × (length (now run) ≤ 65535) ⌝
+    }
+    ensures {
+        λ r. ⌜ ended r (now (held .exit)) (now (tree .exit)) ≡ readsOf (onSlots (now (plan .entry)) nodes kinds (length (now (held .entry)))) 0 (now (run .entry)) 1 0 (now (held .entry)) (now (tree .entry)) ⌝
+    }
+{
+    let mut at = 0;
+    let mut count = 1;
+    let mut written = 0;
+    while at < run.len() {
+        let last = last_part(held, count);
+        let spot = event(plan, nodes, kinds, wide(run[at]), count, written, held, tree);
+        if spot.number != DONE {
+            return refuse(plan, nodes, kinds, spot.number, at, count, last);
+        }
+        count = spot.count;
+        written = spot.written;
+        at += 1;
+    }
+    close(plan, nodes, kinds, at, count, written, held, tree)
 }
