@@ -7,3 +7,4 @@ mod Walks
 mod Takes
 mod Rows
 mod Goes
+pub mod Settles

@@ -4,13 +4,16 @@ ghost use Prim.Native.Nat.{_+_, _*_, _-_, _≤_, _<_};
 ghost use lib.ListN.{length, set};
 ghost use Rattle.book.specs.Decode.{leftAt, rightAt};
 ghost use Rattle.plan.specs.Running.{rowFirst};
-ghost use Rattle.plan.specs.Form.{planNodesAt, cellAt};
-ghost use Rattle.reader.specs.Machine.{Held, after, ended, lastOf, expectedOf, walkOf, eventOf, finishOf, closeOf, readsOf, told, refusal};
+ghost use Rattle.plan.specs.Form.{planNodesAt, cellAt, planJudged};
+ghost use Rattle.reader.specs.Machine.{after, ended, answered, lastOf, expectedOf, walkOf, eventOf, finishOf, closeOf, readsOf, told, refusal};
 ghost use Rattle.reader.specs.Ready.{onSlots, Runnable, Ready};
-ghost use Rattle.reader.specs.Reads.{Reads, outcome, settledOf};
+ghost use Rattle.reader.specs.Reads.{Left, Reads, outcome, bare, runOf, settledOf};
 use book::DONE;
 use kinds::single;
+use plan::judge;
 use plan::NODES_AT;
+use plan::SETTINGS_AT;
+use words::clear_records;
 use words::u16_at;
 use words::wide;
 
@@ -364,4 +367,78 @@ fn events(
         at += 1;
     }
     close(plan, nodes, kinds, at, count, written, held, tree)
+}
+
+// A refusal before any event: both buffers are cleared.
+fn refuse_all(number: u32, place: u32, held: &mut [u16], tree: &mut [u16]) -> Reading
+    ensures {
+        λ r. ⌜ Left (now (held .entry)) (bare (length (now (tree .entry))) (answered number place 0 0)) r (now (held .exit)) (now (tree .exit)) ⌝
+    }
+{
+    clear_records(held);
+    clear_records(tree);
+    Reading {
+        number: number,
+        place: place,
+        records: 0,
+        expected: 0,
+    }
+}
+
+// The answer settled: the tree's rest is cleared, or all of it at a refusal and where the records are more than its room.
+fn settle(answer: Reading, tree: &mut [u16]) -> Reading
+    ensures { λ r. ⌜ outcome r (now (tree .exit)) ≡ settledOf answer (now (tree .entry)) ⌝ }
+{
+    if answer.number != DONE {
+        clear_records(tree);
+        return answer;
+    }
+    let records = answer.records as usize;
+    if tree.len() < records {
+        clear_records(tree);
+        return Reading {
+            number: NO_ROOM,
+            place: 0,
+            records: answer.records,
+            expected: 0,
+        };
+    }
+    clear_records(&mut tree[records..]);
+    answer
+}
+
+// The run by a plan that is judged done, with a slot at least.
+fn run_plan(plan: &[u8], run: &[u8], held: &mut [u16], tree: &mut [u16]) -> Reading
+    requires {
+        ⌜ (planJudged (now plan) .number ≡ 0) × (length (now run) ≤ 65535) × (0 < length (now held)) ⌝
+    }
+    ensures {
+        λ r. ⌜ Left (now (held .entry)) (runOf (now (plan .entry)) (now (run .entry)) (length (now (held .entry))) (length (now (tree .entry)))) r (now (held .exit)) (now (tree .exit)) ⌝
+    }
+{
+    let nodes = u16_at(plan, 12) / 6;
+    let kinds = u16_at(plan, SETTINGS_AT);
+    held[0] = u16_at(plan, SETTINGS_AT + 2) as u16;
+    let answer = events(plan, nodes, kinds, run, held, tree);
+    clear_records(held);
+    settle(answer, tree)
+}
+
+// Reads a run by a plan: the answer, with the tree's records in `tree`, and `held` zero.
+pub fn read(plan: &[u8], run: &[u8], held: &mut [u16], tree: &mut [u16]) -> Reading
+    ensures {
+        λ r. ⌜ Reads (now (plan .entry)) (now (run .entry)) (now (held .entry)) (now (tree .entry)) r (now (held .exit)) (now (tree .exit)) ⌝
+    }
+{
+    let form = judge(plan);
+    if form.number != DONE {
+        return refuse_all(form.number, form.place, held, tree);
+    }
+    if 65535 < run.len() {
+        return refuse_all(LONG, 0, held, tree);
+    }
+    if held.len() == 0 {
+        return refuse_all(DEEP, 0, held, tree);
+    }
+    run_plan(plan, run, held, tree)
 }
