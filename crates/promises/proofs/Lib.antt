@@ -1,0 +1,3 @@
+pub mod Kept
+mod Listed
+mod Outcomes
