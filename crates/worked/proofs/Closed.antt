@@ -1,0 +1,154 @@
+-- Where a further turn changes nothing, every fact that the rules give is marked.
+use Prim.Native.Nat.{ℕ, _+_, _≤_, _<_}
+use mathlib.Core.Path.{_≡_, refl, sym, ap, _∙_}
+use mathlib.Core.Bool.{Bool, true, false, _&&_, _||_}
+use mathlib.Core.List.{List}
+use mathlib.Core.Logic.{_↔_}
+use native.Mathlib.Nat.{zero-add}
+use native.Mathlib.Decide.{decLt}
+use native.Mathlib.Omega.{arith}
+use borrow.Author.Tests.{eq-eqb}
+use lib.ListN.{getD}
+use Rattle.words.proofs.Tests.{joined}
+use Rattle.book.specs.Book.{Book, leftOf, rightOf, Proper, fail-is, token-is, either-is, then-is, tagged-is, ref-is, WellFormed}
+use Rattle.book.specs.declared.Node.{Node}
+use Rattle.book.specs.declared.Node.the-variants.{Fail, Empty, Token, Either, Then, Tagged, Ref}
+use Rattle.rules.specs.Rules.{Productive, Nullable, First, Snf, p-empty, p-token, p-left, p-right, p-then, p-tagged, p-ref, n-empty, n-left, n-right, n-then, n-tagged, n-ref, f-token, f-left, f-right, f-hold, f-skip, f-tagged, f-ref, s-left, s-right, s-first-left, s-first-right, s-then-left, s-then-right, s-tagged, s-ref}
+use Rattle.worked.proofs.Lists.{never, or-left, or-right, filled, filled-at}
+use Rattle.worked.proofs.Turns.{Facts, Row, blank, factsOf, factsAt, rowOf, ruledOf, ruledBy, turns, settled, Sound, SoundRows, settled-at, turns-sound}
+
+-- every node of a well-formed book is proper, beyond the count too
+pub proper-all : {book : Book} → WellFormed book → (n : ℕ) → Proper (book .kinds) (book .count) n (book .node n)
+proper-all {book} w n =
+    elim (decLt n (book .count)) [ yes below ↦ w .proper n below | no not-below ↦ rw (w .beyond n (omega arith)) fail-is ]
+
+-- a table has marked, at the node with a number, what its marks and the rules give a node
+record Covered (kinds : ℕ) (rows : List Row) (at : Node) (n : ℕ) : Type 0 where
+  productive : ruledBy rows at .productive ≡ true → factsAt rows n .productive ≡ true
+  nullable : ruledBy rows at .nullable ≡ true → factsAt rows n .nullable ≡ true
+  first : (k : ℕ) → k < kinds → ruledBy rows at .first k ≡ true → factsAt rows n .first k ≡ true
+  snf : (k : ℕ) → k < kinds → ruledBy rows at .snf k ≡ true → factsAt rows n .snf k ≡ true
+
+-- a kind in a FIRST set is below the number of kinds
+module _ {node : ℕ → Node} {kinds count : ℕ} (proper : (n : ℕ) → Proper kinds count n (node n)) where
+  token-kind : {n k : ℕ} → Proper kinds count n (Token k) → k < kinds
+  token-kind (token-is below) = below
+
+  first-kind : {at : Node} {n k : ℕ} → Proper kinds count n at → First node at k → k < kinds
+  first-kind p f-token = token-kind p
+  first-kind p (f-left d) = first-kind (proper _) d
+  first-kind p (f-right d) = first-kind (proper _) d
+  first-kind p (f-hold d e) = first-kind (proper _) d
+  first-kind p (f-skip d e) = first-kind (proper _) e
+  first-kind p (f-tagged d) = first-kind (proper _) d
+  first-kind p (f-ref d) = first-kind (proper _) d
+
+-- marks that have at every node what the rules give it have every fact
+module _ {node : ℕ → Node} {kinds : ℕ} {rows : List Row} (covered : (n : ℕ) → Covered kinds rows (node n) n) where
+  has-productive : {at : Node} {n : ℕ} → Covered kinds rows at n → Productive node at
+      → factsAt rows n .productive ≡ true
+  unfolding ruledOf
+  has-productive c p-empty = c .productive refl
+  has-productive c p-token = c .productive refl
+  has-productive c (p-left d) = c .productive (or-left _ _ (has-productive (covered _) d))
+  has-productive c (p-right {l = l} d) = c .productive (or-right (factsAt rows l .productive) _ (has-productive (covered _) d))
+  has-productive c (p-then d e) =
+      c .productive (joined _ _ (has-productive (covered _) d) (has-productive (covered _) e))
+  has-productive c (p-tagged d) = c .productive (has-productive (covered _) d)
+  has-productive c (p-ref d) = c .productive (has-productive (covered _) d)
+
+  has-nullable : {at : Node} {n : ℕ} → Covered kinds rows at n → Nullable node at
+      → factsAt rows n .nullable ≡ true
+  unfolding ruledOf
+  has-nullable c n-empty = c .nullable refl
+  has-nullable c (n-left d) = c .nullable (or-left _ _ (has-nullable (covered _) d))
+  has-nullable c (n-right {l = l} d) = c .nullable (or-right (factsAt rows l .nullable) _ (has-nullable (covered _) d))
+  has-nullable c (n-then d e) = c .nullable (joined _ _ (has-nullable (covered _) d) (has-nullable (covered _) e))
+  has-nullable c (n-tagged d) = c .nullable (has-nullable (covered _) d)
+  has-nullable c (n-ref d) = c .nullable (has-nullable (covered _) d)
+
+  has-first : {at : Node} {n k : ℕ} → k < kinds → Covered kinds rows at n → First node at k
+      → factsAt rows n .first k ≡ true
+  unfolding ruledOf
+  has-first {k = k} below c f-token = c .first k below (eq-eqb k k refl)
+  has-first {k = k} below c (f-left d) = c .first k below (or-left _ _ (has-first below (covered _) d))
+  has-first {k = k} below c (f-right {l = l} d) =
+      c .first k below (or-right (factsAt rows l .first k) _ (has-first below (covered _) d))
+  has-first {k = k} below c (f-hold d e) =
+      c .first k below (or-left _ _ (joined _ _ (has-first below (covered _) d) (has-productive (covered _) e)))
+  has-first {k = k} below c (f-skip {l = l} {r = r} d e) =
+      c .first k below
+      (or-right (factsAt rows l .first k && factsAt rows r .productive) _
+      (joined _ _ (has-nullable (covered _) d) (has-first below (covered _) e)))
+  has-first {k = k} below c (f-tagged d) = c .first k below (has-first below (covered _) d)
+  has-first {k = k} below c (f-ref d) = c .first k below (has-first below (covered _) d)
+
+  has-snf : {at : Node} {n k : ℕ} → k < kinds → Covered kinds rows at n → Snf node at k
+      → factsAt rows n .snf k ≡ true
+  unfolding ruledOf
+  has-snf {k = k} below c (s-left d) = c .snf k below (or-left _ _ (or-left _ _ (has-snf below (covered _) d)))
+  has-snf {k = k} below c (s-right {l = l} d) =
+      c .snf k below (or-left _ _ (or-right (factsAt rows l .snf k) _ (has-snf below (covered _) d)))
+  has-snf {k = k} below c (s-first-left {l = l} {r = r} d e) =
+      c .snf k below
+      (or-right (factsAt rows l .snf k || factsAt rows r .snf k) _
+      (or-left _ _ (joined _ _ (has-first below (covered _) d) (has-nullable (covered _) e))))
+  has-snf {k = k} below c (s-first-right {l = l} {r = r} d e) =
+      c .snf k below
+      (or-right (factsAt rows l .snf k || factsAt rows r .snf k) _
+      (or-right (factsAt rows l .first k && factsAt rows r .nullable) _
+      (joined _ _ (has-nullable (covered _) d) (has-first below (covered _) e))))
+  has-snf {k = k} below c (s-then-left d e) =
+      c .snf k below (or-left _ _ (joined _ _ (has-snf below (covered _) d) (has-nullable (covered _) e)))
+  has-snf {k = k} below c (s-then-right {l = l} {r = r} d e) =
+      c .snf k below
+      (or-right (factsAt rows l .snf k && factsAt rows r .nullable) _
+      (joined _ _ (has-productive (covered _) d) (has-snf below (covered _) e)))
+  has-snf {k = k} below c (s-tagged d) = c .snf k below (has-snf below (covered _) d)
+  has-snf {k = k} below c (s-ref d) = c .snf k below (has-snf below (covered _) d)
+
+-- the table's marks are the facts of every node
+pub record FactsAre (book : Book) (rows : List Row) : Type 0 where
+  pub productive-is : (n : ℕ) → (factsAt rows n .productive ≡ true) ↔ Productive (book .node) (book .node n)
+  pub nullable-is : (n : ℕ) → (factsAt rows n .nullable ≡ true) ↔ Nullable (book .node) (book .node n)
+  pub first-is : (n k : ℕ) → (factsAt rows n .first k ≡ true) ↔ First (book .node) (book .node n) k
+  pub snf-is : (n k : ℕ) → k < book .kinds → (factsAt rows n .snf k ≡ true) ↔ Snf (book .node) (book .node n) k
+
+module _ {book : Book} (w : WellFormed book) (rows : List Row) (still : settled book rows ≡ true) where
+  row-covered : (n : ℕ) → n < book .count → Covered (book .kinds) rows (book .node n) n
+  row-covered n below =
+      let is = settled-at book rows still n below in
+      record {
+        productive = λ e. ap (λ r. r .productive) is ∙ e;
+        nullable = λ e. ap (λ r. r .nullable) is ∙ e;
+        first = λ k small e. ap (λ r. getD (r .first) k false) is ∙ kept _ k small ∙ e;
+        snf = λ k small e. ap (λ r. getD (r .snf) k false) is ∙ kept _ k small ∙ e;
+      }
+    where
+      kept : (f : ℕ → Bool) (k : ℕ) → k < book .kinds → getD (filled f (book .kinds) 0) k false ≡ f k
+      kept f k small = filled-at f (book .kinds) 0 k false small ∙ ap f (zero-add k)
+
+  fail-covered : (n : ℕ) → Covered (book .kinds) rows Fail n
+  unfolding ruledOf
+  fail-covered n =
+      record { productive = never; nullable = never; first = λ k small e. never e; snf = λ k small e. never e }
+
+  settled-covered : (n : ℕ) → Covered (book .kinds) rows (book .node n) n
+  settled-covered n =
+      elim (decLt n (book .count)) [
+        | yes below ↦ row-covered n below
+        | no not-below ↦ rw (w .beyond n (omega arith)) (fail-covered n)
+      ]
+
+  pub facts-are : SoundRows (book .node) rows → FactsAre book rows
+  facts-are s =
+      record {
+        productive-is = λ n. (s n .productive, has-productive settled-covered (settled-covered n));
+        nullable-is = λ n. (s n .nullable, has-nullable settled-covered (settled-covered n));
+        first-is =
+            λ n k. (
+              s n .first k,
+              λ d. has-first settled-covered (first-kind (proper-all w) (proper-all w n) d) (settled-covered n) d,
+            );
+        snf-is = λ n k small. (s n .snf k, has-snf settled-covered small (settled-covered n));
+      }
