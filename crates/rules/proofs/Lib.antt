@@ -1,0 +1,4 @@
+pub mod Growing
+pub mod Reading
+pub mod Steps
+pub mod Complete

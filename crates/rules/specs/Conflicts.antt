@@ -1,0 +1,36 @@
+-- Conflicts: the kind that is reported at a node, and the lowest reachable node with a conflict.
+use Prim.Native.Nat.{ℕ, _≤_, _<_}
+use mathlib.Core.Path.{_≡_}
+use mathlib.Core.Logic.{_≢_}
+use Rattle.book.specs.declared.Node.{Node}
+use Rattle.book.specs.declared.Node.the-variants.{Either, Then}
+use Rattle.rules.specs.Rules.{Nullable, First, Snf, Conflict, Reach}
+
+-- the lowest kind of which something holds
+pub record LowestKind (Of : ℕ → Type 0) (k : ℕ) : Type 0 where
+  pub holds : Of k
+  pub least : (j : ℕ) → j < k → Of j → ⊥
+
+-- the kind reported at a conflict: 255 where both sides of an either are nullable, which comes before a shared kind; else the
+-- lowest kind shared
+pub data Reported (node : ℕ → Node) : Node → ℕ → Type 0 where
+  both-nullable : {l r : ℕ} → Nullable node (node l) → Nullable node (node r) → Reported node (Either l r) 255
+  in-both-first : {l r k : ℕ} → (Nullable node (node l) × Nullable node (node r) → ⊥)
+      → LowestKind (λ j. First node (node l) j × First node (node r) j) k → Reported node (Either l r) k
+  in-snf-and-first : {l r k : ℕ} → LowestKind (λ j. Snf node (node l) j × First node (node r) j) k → Reported node (Then l r) k
+
+-- what stands for a node without a conflict
+abbrev pub NO-CONFLICT : ℕ
+NO-CONFLICT = 64
+
+-- the kind reported at a node, or that it has no conflict
+pub record ConflictAt (node : ℕ → Node) (at : Node) (kind : ℕ) : Type 0 where
+  pub some : kind ≢ NO-CONFLICT → Reported node at kind
+  pub none : kind ≡ NO-CONFLICT → Conflict node at → ⊥
+
+-- the lowest reachable node with a conflict, the count where none has one
+pub record LowestConflict (node : ℕ → Node) (start count n : ℕ) : Type 0 where
+  pub within : n ≤ count
+  pub reached : n < count → Reach node start n
+  pub conflict : n < count → Conflict node (node n)
+  pub least : (m : ℕ) → m < n → Reach node start m → Conflict node (node m) → ⊥
