@@ -4,7 +4,6 @@ use mathlib.Core.Path.{_≡_, refl, sym, ap, _∙_}
 use mathlib.Core.Bool.{Bool, true, false, _&&_, _||_}
 use mathlib.Core.List.{List}
 use mathlib.Core.Logic.{_↔_}
-use native.Mathlib.Nat.{zero-add}
 use native.Mathlib.Decide.{decLt}
 use native.Mathlib.Omega.{arith}
 use borrow.Author.Tests.{eq-eqb}
@@ -14,8 +13,8 @@ use Rattle.book.specs.Book.{Book, leftOf, rightOf, Proper, fail-is, token-is, e
 use Rattle.book.specs.declared.Node.{Node}
 use Rattle.book.specs.declared.Node.the-variants.{Fail, Empty, Token, Either, Then, Tagged, Ref}
 use Rattle.rules.specs.Rules.{Productive, Nullable, First, Snf, p-empty, p-token, p-left, p-right, p-then, p-tagged, p-ref, n-empty, n-left, n-right, n-then, n-tagged, n-ref, f-token, f-left, f-right, f-hold, f-skip, f-tagged, f-ref, s-left, s-right, s-first-left, s-first-right, s-then-left, s-then-right, s-tagged, s-ref}
-use Rattle.worked.proofs.Lists.{never, or-left, or-right, filled, filled-at}
-use Rattle.worked.proofs.Turns.{Facts, Row, blank, factsOf, factsAt, rowOf, ruledOf, ruledBy, turns, settled, Sound, SoundRows, settled-at, turns-sound}
+use Rattle.worked.proofs.Lists.{never, or-left, or-right, filled, filled-is}
+use Rattle.worked.proofs.Turns.{Facts, Row, blank, factsOf, factsAt, rowOf, ruledOf, ruledBy, settled, Sound, SoundRows, settled-at}
 
 -- every node of a well-formed book is proper, beyond the count too
 pub proper-all : {book : Book} → WellFormed book → (n : ℕ) → Proper (book .kinds) (book .count) n (book .node n)
@@ -112,6 +111,7 @@ pub record FactsAre (book : Book) (rows : List Row) : Type 0 where
   pub productive-is : (n : ℕ) → (factsAt rows n .productive ≡ true) ↔ Productive (book .node) (book .node n)
   pub nullable-is : (n : ℕ) → (factsAt rows n .nullable ≡ true) ↔ Nullable (book .node) (book .node n)
   pub first-is : (n k : ℕ) → (factsAt rows n .first k ≡ true) ↔ First (book .node) (book .node n) k
+  pub first-below : (n k : ℕ) → First (book .node) (book .node n) k → k < book .kinds
   pub snf-is : (n k : ℕ) → k < book .kinds → (factsAt rows n .snf k ≡ true) ↔ Snf (book .node) (book .node n) k
 
 module _ {book : Book} (w : WellFormed book) (rows : List Row) (still : settled book rows ≡ true) where
@@ -121,12 +121,9 @@ module _ {book : Book} (w : WellFormed book) (rows : List Row) (still : settled 
       record {
         productive = λ e. ap (λ r. r .productive) is ∙ e;
         nullable = λ e. ap (λ r. r .nullable) is ∙ e;
-        first = λ k small e. ap (λ r. getD (r .first) k false) is ∙ kept _ k small ∙ e;
-        snf = λ k small e. ap (λ r. getD (r .snf) k false) is ∙ kept _ k small ∙ e;
+        first = λ k small e. ap (λ r. getD (r .first) k false) is ∙ filled-is _ (book .kinds) k false small ∙ e;
+        snf = λ k small e. ap (λ r. getD (r .snf) k false) is ∙ filled-is _ (book .kinds) k false small ∙ e;
       }
-    where
-      kept : (f : ℕ → Bool) (k : ℕ) → k < book .kinds → getD (filled f (book .kinds) 0) k false ≡ f k
-      kept f k small = filled-at f (book .kinds) 0 k false small ∙ ap f (zero-add k)
 
   fail-covered : (n : ℕ) → Covered (book .kinds) rows Fail n
   unfolding ruledOf
@@ -150,5 +147,6 @@ module _ {book : Book} (w : WellFormed book) (rows : List Row) (still : settled 
               s n .first k,
               λ d. has-first settled-covered (first-kind (proper-all w) (proper-all w n) d) (settled-covered n) d,
             );
+        first-below = λ n k d. first-kind (proper-all w) (proper-all w n) d;
         snf-is = λ n k small. (s n .snf k, has-snf settled-covered small (settled-covered n));
       }

@@ -1,3 +1,5 @@
 pub mod Lists
 pub mod Turns
 pub mod Closed
+pub mod Reached
+pub mod Clashes

@@ -4,8 +4,8 @@ use mathlib.Core.Path.{_≡_, refl, ap, ap₂, sym, _∙_}
 use mathlib.Core.Bool.{Bool, true, false, not, _&&_, _||_, cond, Bool·beq, false≢true}
 use mathlib.Core.List.{List, [], _∷_}
 use mathlib.Core.Logic.{_⊎_, inl, inr}
-use native.Mathlib.Nat.{add-zero, add-suc, suc-add}
-use native.Mathlib.Decide.{ℕ-discrete}
+use native.Mathlib.Nat.{add-zero, add-suc, suc-add, zero-add}
+use native.Mathlib.Decide.{ℕ-discrete, decLt}
 use native.Mathlib.Omega.{arith}
 use lib.ListN.{getD}
 use Rattle.words.proofs.Tests.{both}
@@ -33,12 +33,16 @@ module _ {A : Type 0} where
   filled f zero n = []
   filled f (suc left) n = f n ∷ filled f left (suc n)
 
-  pub filled-at : (f : ℕ → A) (count n i : ℕ) (d : A) → i < count → getD (filled f count n) i d ≡ f (n + i)
+  filled-at : (f : ℕ → A) (count n i : ℕ) (d : A) → i < count → getD (filled f count n) i d ≡ f (n + i)
   unfolding filled
   filled-at f zero n i d below = absurd (omega arith)
   filled-at f (suc count) n zero d below = ap f (sym (add-zero n))
   filled-at f (suc count) n (suc i) d below =
       filled-at f count (suc n) i d (omega arith) ∙ ap f (suc-add n i ∙ sym (add-suc n i))
+
+  -- from 0 on
+  pub filled-is : (f : ℕ → A) (count i : ℕ) (d : A) → i < count → getD (filled f count 0) i d ≡ f i
+  filled-is f count i d below = filled-at f count 0 i d below ∙ ap f (zero-add i)
 
   pub filled-beyond : (f : ℕ → A) (count n i : ℕ) (d : A) → count ≤ i → getD (filled f count n) i d ≡ d
   unfolding filled
@@ -63,11 +67,30 @@ module _ {A : Type 0} where
       let (head, tail) = both (same x y) (sameList same xs ys) e in
       ap₂ (λ a as′. a ∷ as′) (law x y head) (same-list same law xs ys tail)
 
+  -- so many turns of a step
+  unfoldable pub turned : (A → A) → ℕ → A → A
+  turned step zero a = a
+  turned step (suc left) a = turned step left (step a)
+
+  pub turned-keeps : (P : A → Type 0) (step : A → A) → ((a : A) → P a → P (step a)) → (left : ℕ) (a : A) → P a
+      → P (turned step left a)
+  unfolding turned
+  turned-keeps P step keeps zero a p = p
+  turned-keeps P step keeps (suc left) a p = turned-keeps P step keeps left (step a) (keeps a p)
+
 pub same-bool : (a b : Bool) → Bool·beq a b ≡ true → a ≡ b
 same-bool true true e = refl
 same-bool true false e = never e
 same-bool false true e = never e
 same-bool false false e = refl
+
+-- a list of marks has at a place the function's value, or no mark beyond
+pub mark-filled : (f : ℕ → Bool) (count i : ℕ) → getD (filled f count 0) i false ≡ true → (i < count) × (f i ≡ true)
+mark-filled f count i e =
+    elim (decLt i count) [
+      | yes below ↦ (below, sym (filled-is f count i false below) ∙ e)
+      | no not-below ↦ never (sym (filled-beyond f count 0 i false (omega arith)) ∙ e)
+    ]
 
 -- a test holds at one of the numbers below one
 unfoldable pub anyBelow : (ℕ → Bool) → ℕ → Bool

@@ -4,7 +4,6 @@ use mathlib.Core.Path.{_≡_, refl, sym, ap, _∙_}
 use mathlib.Core.Bool.{Bool, true, false, _&&_, _||_, Bool·beq}
 use mathlib.Core.List.{List, []}
 use mathlib.Core.Logic.{⊎-elim}
-use native.Mathlib.Nat.{zero-add}
 use native.Mathlib.Decide.{decLt}
 use native.Mathlib.Omega.{arith}
 use borrow.Author.Tests.{eqb-true}
@@ -15,7 +14,7 @@ use Rattle.book.specs.Book.{Book, leftOf, rightOf}
 use Rattle.book.specs.declared.Node.{Node}
 use Rattle.book.specs.declared.Node.the-variants.{Fail, Empty, Token, Either, Then, Tagged, Ref}
 use Rattle.rules.specs.Rules.{Productive, Nullable, First, Snf, p-empty, p-token, p-left, p-right, p-then, p-tagged, p-ref, n-empty, n-left, n-right, n-then, n-tagged, n-ref, f-token, f-left, f-right, f-hold, f-skip, f-tagged, f-ref, s-left, s-right, s-first-left, s-first-right, s-then-left, s-then-right, s-tagged, s-ref}
-use Rattle.worked.proofs.Lists.{never, one-of, filled, filled-at, filled-beyond, sameList, same-list, same-bool}
+use Rattle.worked.proofs.Lists.{never, one-of, filled, filled-is, filled-beyond, mark-filled, turned, turned-keeps, sameList, same-list, same-bool}
 
 -- what is marked of a node
 pub record Facts : Type 0 where
@@ -108,11 +107,6 @@ module _ (book : Book) where
   unfoldable pub turn : List Row → List Row
   turn rows = filled (λ n. rowOf (book .kinds) (ruledBy rows (book .node n))) (book .count) 0
 
-  -- so many turns
-  unfoldable pub turns : ℕ → List Row → List Row
-  turns zero rows = rows
-  turns (suc left) rows = turns left (turn rows)
-
   -- a further turn changes nothing
   unfoldable pub settled : List Row → Bool
   settled rows = sameList sameRow (turn rows) rows
@@ -188,14 +182,6 @@ module _ {node : ℕ → Node} {left right : Facts} where
 abbrev pub SoundRows : (ℕ → Node) → List Row → Type 0
 SoundRows node rows = (n : ℕ) → Sound node (node n) (factsAt rows n)
 
--- a list that a function fills has at a place the function's value or nothing
-look-filled : (f : ℕ → Bool) (kinds k : ℕ) → getD (filled f kinds 0) k false ≡ true → (k < kinds) × (f k ≡ true)
-look-filled f kinds k e =
-    elim (decLt k kinds) [
-      | yes below ↦ (below, sym (filled-at f kinds 0 k false below ∙ ap f (zero-add k)) ∙ e)
-      | no not-below ↦ never (sym (filled-beyond f kinds 0 k false (omega arith)) ∙ e)
-    ]
-
 module _ {node : ℕ → Node} {at : Node} where
   blank-sound : Sound node at (factsOf blank)
   blank-sound = record { productive = never; nullable = never; first = λ k e. never e; snf = λ k e. never e }
@@ -205,8 +191,8 @@ module _ {node : ℕ → Node} {at : Node} where
       record {
         productive = s .productive;
         nullable = s .nullable;
-        first = λ k e. s .first k (look-filled (facts .first) kinds k e .1);
-        snf = λ k e. s .snf k (look-filled (facts .snf) kinds k e .1);
+        first = λ k e. s .first k (mark-filled (facts .first) kinds k e .1);
+        snf = λ k e. s .snf k (mark-filled (facts .snf) kinds k e .1);
       }
 
 module _ (book : Book) where
@@ -215,8 +201,7 @@ module _ (book : Book) where
       → getD (turn book rows) n blank ≡ rowOf (book .kinds) (ruledBy rows (book .node n))
   unfolding turn
   turn-at rows n below =
-      filled-at (λ m. rowOf (book .kinds) (ruledBy rows (book .node m))) (book .count) 0 n blank below
-      ∙ ap (λ m. rowOf (book .kinds) (ruledBy rows (book .node m))) (zero-add n)
+      filled-is (λ m. rowOf (book .kinds) (ruledBy rows (book .node m))) (book .count) n blank below
 
   turn-beyond : (rows : List Row) (n : ℕ) → book .count ≤ n → getD (turn book rows) n blank ≡ blank
   unfolding turn
@@ -229,14 +214,9 @@ module _ (book : Book) where
         | no not-below ↦ rw (turn-beyond rows n (omega arith)) blank-sound
       ]
 
-  turns-sound-from : (left : ℕ) (rows : List Row) → SoundRows (book .node) rows → SoundRows (book .node) (turns book left rows)
-  unfolding turns
-  turns-sound-from zero rows s = s
-  turns-sound-from (suc left) rows s = turns-sound-from left (turn book rows) (turn-sound rows s)
-
   -- after any turns from no marks, each mark has a derivation
-  pub turns-sound : (left : ℕ) → SoundRows (book .node) (turns book left [])
-  turns-sound left = turns-sound-from left [] (λ n. blank-sound)
+  pub turns-sound : (left : ℕ) → SoundRows (book .node) (turned (turn book) left [])
+  turns-sound left = turned-keeps (SoundRows (book .node)) (turn book) turn-sound left [] (λ n. blank-sound)
 
   -- where a further turn changes nothing, a node's row is what the rules give it
   pub settled-at : (rows : List Row) → settled book rows ≡ true → (n : ℕ) → n < book .count
