@@ -3,3 +3,4 @@ pub mod Turns
 pub mod Closed
 pub mod Reached
 pub mod Clashes
+pub mod Decided
