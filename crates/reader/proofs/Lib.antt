@@ -1,0 +1,6 @@
+pub mod Slots
+pub mod Simulation
+pub mod Records
+pub mod Runs
+pub mod Plans
+mod Walks
