@@ -23,19 +23,19 @@ pub record Clash : Type 0 where
   pub nulls : Bool
   pub shared : ℕ → Bool
 
-abbrev pub none : Clash
-none = record { nulls = false; shared = λ k. false }
+abbrev pub no-clash : Clash
+no-clash = record { nulls = false; shared = λ k. false }
 
 -- at an either the two sides and their FIRST sets, at a then SNF(left) and FIRST(right)
 unfoldable pub clashOf : Node → Facts → Facts → Clash
-clashOf Fail left right = none
-clashOf Empty left right = none
-clashOf (Token k) left right = none
+clashOf Fail left right = no-clash
+clashOf Empty left right = no-clash
+clashOf (Token k) left right = no-clash
 clashOf (Either l r) left right =
     record { nulls = left .nullable && right .nullable; shared = λ k. left .first k && right .first k }
 clashOf (Then l r) left right = record { nulls = false; shared = λ k. left .snf k && right .first k }
-clashOf (Tagged l t) left right = none
-clashOf (Ref l) left right = none
+clashOf (Tagged l t) left right = no-clash
+clashOf (Ref l) left right = no-clash
 
 -- the lowest number at which a test holds, of those below one; that one where there is none
 abbrev pub lowestOf : (ℕ → Bool) → ℕ → ℕ
@@ -85,8 +85,8 @@ module _ {book : Book} {rows : List Row} (facts : FactsAre book rows) where
     (λ d. joined _ _ (facts .snf-is l k below .1 (d .0)) (facts .first-is r k .1 (d .1))),
   )
 
-  no-clash {ℓ} : {A : Type ℓ} → clashes (book .kinds) none ≡ true → A
-  no-clash e = never (not-false false (first-failed (λ k. true) (book .kinds) (ltb-true _ _ e)))
+  never-clashes {ℓ} : {A : Type ℓ} → clashes (book .kinds) no-clash ≡ true → A
+  never-clashes e = never (not-false false (first-failed (λ k. true) (book .kinds) (ltb-true _ _ e)))
 
   either-reported : (l r : ℕ) (nulls : Bool) → (factsAt rows l .nullable && factsAt rows r .nullable) ≡ nulls
       → clashes (book .kinds) (record { nulls = nulls; shared = λ k. factsAt rows l .first k && factsAt rows r .first k }) ≡ true
@@ -103,13 +103,13 @@ module _ {book : Book} {rows : List Row} (facts : FactsAre book rows) where
   pub clash-reported : (at : Node) → clashes (book .kinds) (clashBy rows at) ≡ true
       → Reported (book .node) at (kindOf (book .kinds) (clashBy rows at))
   unfolding clashOf
-  clash-reported Fail e = no-clash e
-  clash-reported Empty e = no-clash e
-  clash-reported (Token k) e = no-clash e
+  clash-reported Fail e = never-clashes e
+  clash-reported Empty e = never-clashes e
+  clash-reported (Token k) e = never-clashes e
   clash-reported (Either l r) e = either-reported l r _ refl e
   clash-reported (Then l r) e = in-snf-and-first (lowest-is _ _ (book .kinds) (in-follow l r) (ltb-true _ _ e))
-  clash-reported (Tagged l t) e = no-clash e
-  clash-reported (Ref l) e = no-clash e
+  clash-reported (Tagged l t) e = never-clashes e
+  clash-reported (Ref l) e = never-clashes e
 
   -- where the marks have no conflict there is none
   pub clash-none : {at : Node} → clashes (book .kinds) (clashBy rows at) ≡ false → Conflict (book .node) at → ⊥

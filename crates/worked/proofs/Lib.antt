@@ -4,3 +4,6 @@ pub mod Closed
 pub mod Reached
 pub mod Clashes
 pub mod Decided
+pub mod Known
+pub mod Readings
+pub mod Checked

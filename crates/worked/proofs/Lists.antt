@@ -10,6 +10,7 @@ use native.Mathlib.Omega.{arith}
 use lib.ListN.{getD}
 use Rattle.words.proofs.Tests.{both}
 use Rattle.book.specs.Decode.{firstBad}
+use Rattle.worked.specs.Worked.{Each, no-more, and}
 
 -- a test that fails does not hold
 pub never {ℓ} : {A : Type ℓ} → false ≡ true → A
@@ -91,6 +92,19 @@ mark-filled f count i e =
       | yes below ↦ (below, sym (filled-is f count i false below) ∙ e)
       | no not-below ↦ never (sym (filled-beyond f count 0 i false (omega arith)) ∙ e)
     ]
+
+-- a test holds of each entry of a list
+unfoldable pub every : {A : Type 0} → (A → Bool) → List A → Bool
+every test [] = true
+every test (x ∷ xs) = test x && every test xs
+
+-- the test, computed over a list, and a law at an entry give the rule at each entry
+pub each : {A : Type 0} {Of : A → Type 0} (test : A → Bool) → ((x : A) → test x ≡ true → Of x)
+    → (xs : List A) → every test xs ≡ true → Each Of xs
+unfolding every
+each test law [] e = no-more
+each test law (x ∷ xs) e =
+    let (here, later) = both (test x) (every test xs) e in and (law x here) (each test law xs later)
 
 -- a test holds at one of the numbers below one
 unfoldable pub anyBelow : (ℕ → Bool) → ℕ → Bool
