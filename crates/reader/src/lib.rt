@@ -16,17 +16,11 @@ use words::wide;
 
 // The answers' numbers.
 pub const LONG: u32 = 10;
-
 pub const DEEP: u32 = 11;
-
 pub const UNKNOWN: u32 = 12;
-
 pub const UNEXPECTED: u32 = 13;
-
 pub const END: u32 = 14;
-
 pub const RUNAWAY: u32 = 15;
-
 pub const NO_ROOM: u32 = 16;
 
 // What is added to a node's number in an empty record.
@@ -93,8 +87,12 @@ fn walk(
     held: &mut [u16],
     tree: &mut [u16],
 ) -> Spot
-    requires { ⌜ (Ready (now plan) nodes kinds count written (now held)) × (kind < kinds) × (from < nodes) ⌝ }
-    ensures { λ r. ⌜ after r (now (held .exit)) (now (tree .exit)) ≡ walkOf (onSlots (now (plan .entry)) nodes kinds (length (now (held .entry)))) kind nodes from count written (now (held .entry)) (now (tree .entry)) ⌝ }
+    requires {
+        ⌜ (Ready (now plan) nodes kinds count written (now held)) × (kind < kinds) × (from < nodes) ⌝
+    }
+    ensures {
+        λ r. ⌜ after r (now (held .exit)) (now (tree .exit)) ≡ walkOf (onSlots (now (plan .entry)) nodes kinds (length (now (held .entry)))) kind nodes from count written (now (held .entry)) (now (tree .entry)) ⌝
+    }
 {
     let mut left = nodes;
     let mut node = from;
