@@ -1,6 +1,6 @@
 -- Conflicts by the marks: whether a node has one, and the kind that is reported there.
 use Prim.Native.Nat.{ℕ, _≤_, _<_}
-use mathlib.Core.Path.{_≡_, refl, sym, ap, _∙_}
+use mathlib.Core.Path.{_≡_, refl, sym, _∙_}
 use mathlib.Core.Bool.{Bool, true, false, not, _&&_, _||_, cond}
 use mathlib.Core.List.{List}
 use mathlib.Core.Logic.{_↔_}
@@ -12,7 +12,7 @@ use Rattle.book.specs.Book.{Book, leftOf, rightOf}
 use Rattle.book.specs.Decode.{firstBad}
 use Rattle.book.specs.declared.Node.{Node}
 use Rattle.book.specs.declared.Node.the-variants.{Fail, Empty, Token, Either, Then, Tagged, Ref}
-use Rattle.rules.specs.Rules.{Nullable, First, Snf, Conflict, c-nullable, c-first, c-follow}
+use Rattle.rules.specs.Rules.{First, Snf, Conflict, c-nullable, c-first, c-follow}
 use Rattle.rules.specs.Conflicts.{LowestKind, Reported, both-nullable, in-both-first, in-snf-and-first}
 use Rattle.worked.proofs.Lists.{never, or-left, or-right, first-passed, first-failed}
 use Rattle.worked.proofs.Turns.{Facts, Row, factsAt}

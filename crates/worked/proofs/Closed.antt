@@ -1,7 +1,7 @@
 -- Where a further turn changes nothing, every fact that the rules give is marked.
-use Prim.Native.Nat.{ℕ, _+_, _≤_, _<_}
-use mathlib.Core.Path.{_≡_, refl, sym, ap, _∙_}
-use mathlib.Core.Bool.{Bool, true, false, _&&_, _||_}
+use Prim.Native.Nat.{ℕ, _<_}
+use mathlib.Core.Path.{_≡_, refl, ap, _∙_}
+use mathlib.Core.Bool.{true, false, _&&_, _||_}
 use mathlib.Core.List.{List}
 use mathlib.Core.Logic.{_↔_}
 use native.Mathlib.Decide.{decLt}
@@ -9,12 +9,12 @@ use native.Mathlib.Omega.{arith}
 use borrow.Author.Tests.{eq-eqb}
 use lib.ListN.{getD}
 use Rattle.words.proofs.Tests.{joined}
-use Rattle.book.specs.Book.{Book, leftOf, rightOf, Proper, fail-is, token-is, either-is, then-is, tagged-is, ref-is, WellFormed}
+use Rattle.book.specs.Book.{Book, Proper, fail-is, token-is, WellFormed}
 use Rattle.book.specs.declared.Node.{Node}
-use Rattle.book.specs.declared.Node.the-variants.{Fail, Empty, Token, Either, Then, Tagged, Ref}
+use Rattle.book.specs.declared.Node.the-variants.{Fail, Token}
 use Rattle.rules.specs.Rules.{Productive, Nullable, First, Snf, p-empty, p-token, p-left, p-right, p-then, p-tagged, p-ref, n-empty, n-left, n-right, n-then, n-tagged, n-ref, f-token, f-left, f-right, f-hold, f-skip, f-tagged, f-ref, s-left, s-right, s-first-left, s-first-right, s-then-left, s-then-right, s-tagged, s-ref}
-use Rattle.worked.proofs.Lists.{never, or-left, or-right, filled, filled-is}
-use Rattle.worked.proofs.Turns.{Facts, Row, blank, factsOf, factsAt, rowOf, ruledOf, ruledBy, settled, Sound, SoundRows, settled-at}
+use Rattle.worked.proofs.Lists.{never, or-left, or-right, filled-is}
+use Rattle.worked.proofs.Turns.{Row, factsAt, ruledOf, ruledBy, settled, SoundRows, settled-at}
 
 -- every node of a well-formed book is proper, beyond the count too
 pub proper-all : {book : Book} → WellFormed book → (n : ℕ) → Proper (book .kinds) (book .count) n (book .node n)

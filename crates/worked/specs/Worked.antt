@@ -64,7 +64,7 @@ pub data Each {A : Type 0} (Of : A → Type 0) : List A → Type 0 where
 abbrev pub ReadsAs : List ℕ → Run → Type 0
 ReadsAs plan r = readOf plan (r .run) (r .slots) (r .room) ≡ outcome (r .answer) (r .tree ++ zeros (r .room - length (r .tree)))
 
--- a written book's nodes are of good form and its start can produce some run
+-- a book is of good form and its start can produce some run
 pub record Fit (bytes : List ℕ) : Type 0 where
   pub form-done : formOf bytes .number ≡ DONE
   pub productive : Productive (bookOf bytes .node) (bookOf bytes .node (bookOf bytes .start))
@@ -97,10 +97,11 @@ Holds (passes book size rows runs) = Passes (bookBytes book) size rows runs
 
 -- ---- the table
 
--- a reading in a line
+-- a reading in a line: run, slots, room, answer, tree
 abbrev reads : List ℕ → ℕ → ℕ → Reading → List ℕ → Run
 reads run slots room answer tree = record { run = run; slots = slots; room = room; answer = answer; tree = tree }
 
+-- a book in a line: kinds, start, nodes
 abbrev book : ℕ → ℕ → List Node → Written
 book kinds start nodes = record { kinds = kinds; start = start; nodes = nodes }
 
@@ -110,6 +111,7 @@ rinse =
     book 3 8
     (Token 0 ∷ Token 1 ∷ Token 2 ∷ Empty ∷ Ref 6 ∷ Then 1 4 ∷ Either 5 3 ∷ Then 6 2 ∷ Then 0 7 ∷ [])
 
+-- the cases of document 01, in its order
 unfoldable pub table : List Case
 table =
     begins rinse (2 ∷ 0 ∷ 1 ∷ 0 ∷ 14 ∷ 0 ∷ 4 ∷ 0 ∷ 2 ∷ 0 ∷ 18 ∷ 0 ∷ 54 ∷ 0 ∷ 3 ∷ 0 ∷ 8 ∷ 0 ∷ [])
