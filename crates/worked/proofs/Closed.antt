@@ -9,17 +9,14 @@ use native.Mathlib.Omega.{arith}
 use borrow.Author.Tests.{eq-eqb}
 use lib.ListN.{getD}
 use Rattle.words.proofs.Tests.{joined}
-use Rattle.book.specs.Book.{Book, Proper, fail-is, token-is, WellFormed}
+use Rattle.book.specs.Book.{Book, WellFormed}
 use Rattle.book.specs.declared.Node.{Node}
-use Rattle.book.specs.declared.Node.the-variants.{Fail, Token}
+use Rattle.book.specs.declared.Node.the-variants.{Fail}
 use Rattle.rules.specs.Rules.{Productive, Nullable, First, Snf, p-empty, p-token, p-left, p-right, p-then, p-tagged, p-ref, n-empty, n-left, n-right, n-then, n-tagged, n-ref, f-token, f-left, f-right, f-hold, f-skip, f-tagged, f-ref, s-left, s-right, s-first-left, s-first-right, s-then-left, s-then-right, s-tagged, s-ref}
-use Rattle.worked.proofs.Lists.{never, or-left, or-right, filled-is}
+use Rattle.rules.proofs.Laws.{first-below}
+use Rattle.compiler.proofs.Least.{or-left, or-right}
+use Rattle.worked.proofs.Lists.{never, filled-is}
 use Rattle.worked.proofs.Turns.{Row, factsAt, ruledOf, ruledBy, settled, SoundRows, settled-at}
-
--- every node of a well-formed book is proper, beyond the count too
-pub proper-all : {book : Book} → WellFormed book → (n : ℕ) → Proper (book .kinds) (book .count) n (book .node n)
-proper-all {book} w n =
-    elim (decLt n (book .count)) [ yes below ↦ w .proper n below | no not-below ↦ rw (w .beyond n (omega arith)) fail-is ]
 
 -- a table has marked, at the node with a number, what its marks and the rules give a node
 record Covered (kinds : ℕ) (rows : List Row) (at : Node) (n : ℕ) : Type 0 where
@@ -27,20 +24,6 @@ record Covered (kinds : ℕ) (rows : List Row) (at : Node) (n : ℕ) : Type 0 wh
   nullable : ruledBy rows at .nullable ≡ true → factsAt rows n .nullable ≡ true
   first : (k : ℕ) → k < kinds → ruledBy rows at .first k ≡ true → factsAt rows n .first k ≡ true
   snf : (k : ℕ) → k < kinds → ruledBy rows at .snf k ≡ true → factsAt rows n .snf k ≡ true
-
--- a kind in a FIRST set is below the number of kinds
-module _ {node : ℕ → Node} {kinds count : ℕ} (proper : (n : ℕ) → Proper kinds count n (node n)) where
-  token-kind : {n k : ℕ} → Proper kinds count n (Token k) → k < kinds
-  token-kind (token-is below) = below
-
-  first-kind : {at : Node} {n k : ℕ} → Proper kinds count n at → First node at k → k < kinds
-  first-kind p f-token = token-kind p
-  first-kind p (f-left d) = first-kind (proper _) d
-  first-kind p (f-right d) = first-kind (proper _) d
-  first-kind p (f-hold d e) = first-kind (proper _) d
-  first-kind p (f-skip d e) = first-kind (proper _) e
-  first-kind p (f-tagged d) = first-kind (proper _) d
-  first-kind p (f-ref d) = first-kind (proper _) d
 
 -- marks that have at every node what the rules give it have every fact
 module _ {node : ℕ → Node} {kinds : ℕ} {rows : List Row} (covered : (n : ℕ) → Covered kinds rows (node n) n) where
@@ -137,6 +120,16 @@ module _ {book : Book} (w : WellFormed book) (rows : List Row) (still : settled 
         | no not-below ↦ rw (w .beyond n (omega arith)) (fail-covered n)
       ]
 
+  first-kind : (n k : ℕ) → First (book .node) (book .node n) k → k < book .kinds
+  first-kind n k d =
+      elim (decLt n (book .count)) [
+        | yes below ↦ first-below (w .proper) below d
+        | no not-below ↦ absurd (no-first (rw (w .beyond n (omega arith)) at d))
+      ]
+    where
+      no-first : First (book .node) Fail k → ⊥
+      no-first = elim [ ]
+
   pub facts-are : SoundRows (book .node) rows → FactsAre book rows
   facts-are s =
       record {
@@ -145,8 +138,8 @@ module _ {book : Book} (w : WellFormed book) (rows : List Row) (still : settled 
         first-is =
             λ n k. (
               s n .first k,
-              λ d. has-first settled-covered (first-kind (proper-all w) (proper-all w n) d) (settled-covered n) d,
+              λ d. has-first settled-covered (first-kind n k d) (settled-covered n) d,
             );
-        first-below = λ n k d. first-kind (proper-all w) (proper-all w n) d;
+        first-below = first-kind;
         snf-is = λ n k small. (s n .snf k, has-snf settled-covered small (settled-covered n));
       }

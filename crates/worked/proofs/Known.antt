@@ -1,17 +1,16 @@
 -- Books whose tables of marks settle: a test that computes, and what it shows of the book.
-use Prim.Native.Nat.{ℕ, _≤_, _<_}
+use Prim.Native.Nat.{ℕ, _-_, _≤_, _<_}
 use mathlib.Core.Path.{_≡_}
 use mathlib.Core.Bool.{Bool, true, _&&_}
-use mathlib.Core.List.{List}
+use mathlib.Core.List.{List, _++_}
 use borrow.Author.Tests.{eqb-true}
 use lib.Dec.{eqb}
+use Rattle.words.specs.Words.{zeros}
 use Rattle.words.proofs.Tests.{both}
 use Rattle.book.specs.Form.{DONE, formOf, bookOf}
 use Rattle.book.proofs.Decoded.{formed, well-formed}
-use Rattle.rules.specs.Rules.{Conflict, Reach}
-use Rattle.rules.specs.Conflicts.{Reported}
-use Rattle.plan.specs.Cells.{Marked}
-use Rattle.worked.specs.Worked.{Fit}
+use Rattle.plan.specs.Bytes.{planBytes}
+use Rattle.compiler.specs.Compiles.{CONFLICT, answer, Fruitful, sizeOf, Compiles, conflict, done}
 use Rattle.worked.proofs.Turns.{factsAt, settled}
 use Rattle.worked.proofs.Closed.{FactsAre}
 use Rattle.worked.proofs.Reached.{ReachIs, reachSettled}
@@ -28,7 +27,8 @@ module _ (bytes : List ℕ) where
 
   -- what that shows
   pub record Known : Type 0 where
-    pub fit : Fit bytes
+    pub form-done : formOf bytes .number ≡ DONE
+    pub fruitful : Fruitful (bookOf bytes)
     pub facts : FactsAre (bookOf bytes) (rowsOf (bookOf bytes))
     pub reach : ReachIs (bookOf bytes) (reachOf (bookOf bytes))
 
@@ -42,9 +42,10 @@ module _ (bytes : List ℕ) where
       let w = well-formed (formed bytes is-done) in
       let facts = facts-of (bookOf bytes) w still in
       record {
+        form-done = is-done;
+        fruitful = facts .productive-is (bookOf bytes .start) .0 productive;
         facts = facts;
         reach = reach-of (bookOf bytes) w reached;
-        fit = record { form-done = is-done; productive = facts .productive-is (bookOf bytes .start) .0 productive };
       }
 
   -- the lowest reachable node with a conflict, and the kind reported there
@@ -54,25 +55,20 @@ module _ (bytes : List ℕ) where
   unfoldable pub kind : ℕ
   kind = kindOf (bookOf bytes .kinds) (clashBy (rowsOf (bookOf bytes)) (bookOf bytes .node place))
 
-  module _ (k : Known) where
-    pub marks-are : Marked (bookOf bytes .node) (marksOf (rowsOf (bookOf bytes)))
-    marks-are = marked (bookOf bytes) _ _ (k .facts) (k .reach)
-
-    pub free-all : bookOf bytes .count ≤ place
-        → (m : ℕ) → Reach (bookOf bytes .node) (bookOf bytes .start) m → Conflict (bookOf bytes .node) (bookOf bytes .node m) → ⊥
+  module _ (k : Known) (room : ℕ) where
+    -- the book is done where it has no reachable conflict and room enough, with the plan by its marks
+    pub compiles-done : bookOf bytes .count ≤ place → sizeOf (bookOf bytes) ≤ room
+        → Compiles bytes room (answer DONE 0 0 (sizeOf (bookOf bytes)))
+        (planBytes bytes (marksOf (rowsOf (bookOf bytes))) ++ zeros (room - sizeOf (bookOf bytes)))
     unfolding place
-    free-all none = free (bookOf bytes) _ _ (k .facts) (k .reach) none
+    compiles-done none enough =
+        done (k .form-done) (k .fruitful) (free (bookOf bytes) _ _ (k .facts) (k .reach) none) enough
+        (marked (bookOf bytes) _ _ (k .facts) (k .reach))
 
-    pub free-under : (m : ℕ) → m < place → Reach (bookOf bytes .node) (bookOf bytes .start) m
-        → Conflict (bookOf bytes .node) (bookOf bytes .node m) → ⊥
-    unfolding place
-    free-under = free-below (bookOf bytes) _ _ (k .facts) (k .reach)
-
-    module _ (found : place < bookOf bytes .count) where
-      pub place-reached : Reach (bookOf bytes .node) (bookOf bytes .start) place
-      unfolding place
-      place-reached = lowest-reached (bookOf bytes) _ _ (k .facts) (k .reach) found
-
-      pub place-reported : Reported (bookOf bytes .node) (bookOf bytes .node place) kind
-      unfolding place kind
-      place-reported = lowest-reported (bookOf bytes) _ _ (k .facts) (k .reach) found
+    -- else it is a CONFLICT at the lowest, with the kind reported there
+    pub compiles-conflict : place < bookOf bytes .count → Compiles bytes room (answer CONFLICT place kind 0) (zeros room)
+    unfolding place kind
+    compiles-conflict found =
+        conflict (k .form-done) (k .fruitful) (free-below (bookOf bytes) _ _ (k .facts) (k .reach))
+        (lowest-reached (bookOf bytes) _ _ (k .facts) (k .reach) found)
+        (lowest-reported (bookOf bytes) _ _ (k .facts) (k .reach) found)

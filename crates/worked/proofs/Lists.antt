@@ -10,23 +10,12 @@ use native.Mathlib.Omega.{arith}
 use lib.ListN.{getD}
 use Rattle.words.proofs.Tests.{both}
 use Rattle.book.specs.Decode.{firstBad}
+use Rattle.compiler.proofs.Least.{or-cases, or-left, or-right}
 use Rattle.worked.specs.Worked.{Each, no-more, and}
 
 -- a test that fails does not hold
 pub never {ℓ} : {A : Type ℓ} → false ≡ true → A
 never e = absurd (false≢true e)
-
--- one of two tests holds
-pub one-of : (a b : Bool) → (a || b) ≡ true → (a ≡ true) ⊎ (b ≡ true)
-one-of true b e = inl refl
-one-of false b e = inr e
-
-pub or-left : (a b : Bool) → a ≡ true → (a || b) ≡ true
-or-left a b e = rw e
-
-pub or-right : (a b : Bool) → b ≡ true → (a || b) ≡ true
-or-right true b e = refl
-or-right false b e = e
 
 module _ {A : Type 0} where
   -- the values of a function at so many numbers from one on
@@ -114,7 +103,7 @@ anyBelow test (suc n) = test n || anyBelow test n
 pub any-some : (test : ℕ → Bool) (count : ℕ) → anyBelow test count ≡ true → (n : ℕ) × (test n ≡ true)
 unfolding anyBelow
 any-some test zero e = never e
-any-some test (suc n) e = go (one-of (test n) (anyBelow test n) e) (λ h. any-some test n h)
+any-some test (suc n) e = go (or-cases (test n) (anyBelow test n) e) (λ h. any-some test n h)
   where
     go : (test n ≡ true) ⊎ (anyBelow test n ≡ true) → (anyBelow test n ≡ true → (m : ℕ) × (test m ≡ true))
         → (m : ℕ) × (test m ≡ true)

@@ -13,7 +13,8 @@ use Rattle.book.specs.Book.{Book, Proper, either-is, then-is, tagged-is, ref-is
 use Rattle.book.specs.declared.Node.{Node}
 use Rattle.book.specs.declared.Node.the-variants.{Fail, Empty, Token, Either, Then, Tagged, Ref}
 use Rattle.rules.specs.Rules.{Child, Reach, either-left, either-right, then-left, then-right, tagged-left, ref-left, r-start, r-child}
-use Rattle.worked.proofs.Lists.{never, one-of, or-left, or-right, filled, filled-is, mark-filled, turned, turned-keeps, sameList, same-list, same-bool, anyBelow, any-some, some-any}
+use Rattle.compiler.proofs.Least.{or-cases, or-left, or-right}
+use Rattle.worked.proofs.Lists.{never, filled, filled-is, mark-filled, turned, turned-keeps, sameList, same-list, same-bool, anyBelow, any-some, some-any}
 
 -- whether a number is the left or the right of a node
 unfoldable pub isChild : Node → ℕ → Bool
@@ -31,9 +32,9 @@ child-is Fail m e = never e
 child-is Empty m e = never e
 child-is (Token k) m e = never e
 child-is (Either l r) m e =
-    ⊎-elim (λ h. rw (eqb-true m l h) either-left) (λ h. rw (eqb-true m r h) either-right) (one-of _ _ e)
+    ⊎-elim (λ h. rw (eqb-true m l h) either-left) (λ h. rw (eqb-true m r h) either-right) (or-cases _ _ e)
 child-is (Then l r) m e =
-    ⊎-elim (λ h. rw (eqb-true m l h) then-left) (λ h. rw (eqb-true m r h) then-right) (one-of _ _ e)
+    ⊎-elim (λ h. rw (eqb-true m l h) then-left) (λ h. rw (eqb-true m r h) then-right) (or-cases _ _ e)
 child-is (Tagged l t) m e = rw (eqb-true m l e) tagged-left
 child-is (Ref l) m e = rw (eqb-true m l e) ref-left
 
@@ -81,7 +82,7 @@ module _ (book : Book) where
       let (n, child) = any-some _ (book .count) later in
       let (marked, is) = both (getD marks n false) _ child in
       r-child (s n marked) (child-is (book .node n) m is))
-      (one-of _ _ (mark-filled (reachedBy marks) (book .count) m e .1))
+      (or-cases _ _ (mark-filled (reachedBy marks) (book .count) m e .1))
 
   -- the marks are the reachable nodes
   pub record ReachIs (marks : List Bool) : Type 0 where

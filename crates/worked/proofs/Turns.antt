@@ -14,7 +14,8 @@ use Rattle.book.specs.Book.{Book, leftOf, rightOf}
 use Rattle.book.specs.declared.Node.{Node}
 use Rattle.book.specs.declared.Node.the-variants.{Fail, Empty, Token, Either, Then, Tagged, Ref}
 use Rattle.rules.specs.Rules.{Productive, Nullable, First, Snf, p-empty, p-token, p-left, p-right, p-then, p-tagged, p-ref, n-empty, n-left, n-right, n-then, n-tagged, n-ref, f-token, f-left, f-right, f-hold, f-skip, f-tagged, f-ref, s-left, s-right, s-first-left, s-first-right, s-then-left, s-then-right, s-tagged, s-ref}
-use Rattle.worked.proofs.Lists.{never, one-of, filled, filled-is, filled-beyond, mark-filled, turned, turned-keeps, sameList, same-list, same-bool}
+use Rattle.compiler.proofs.Least.{or-cases}
+use Rattle.worked.proofs.Lists.{never, filled, filled-is, filled-beyond, mark-filled, turned, turned-keeps, sameList, same-list, same-bool}
 
 -- what is marked of a node
 pub record Facts : Type 0 where
@@ -136,17 +137,17 @@ module _ {node : ℕ → Node} {left right : Facts} where
       }
   ruled-sound (Either m n) l r =
       record {
-        productive = λ e. ⊎-elim (λ h. p-left (l .productive h)) (λ h. p-right (r .productive h)) (one-of _ _ e);
-        nullable = λ e. ⊎-elim (λ h. n-left (l .nullable h)) (λ h. n-right (r .nullable h)) (one-of _ _ e);
-        first = λ k e. ⊎-elim (λ h. f-left (l .first k h)) (λ h. f-right (r .first k h)) (one-of _ _ e);
+        productive = λ e. ⊎-elim (λ h. p-left (l .productive h)) (λ h. p-right (r .productive h)) (or-cases _ _ e);
+        nullable = λ e. ⊎-elim (λ h. n-left (l .nullable h)) (λ h. n-right (r .nullable h)) (or-cases _ _ e);
+        first = λ k e. ⊎-elim (λ h. f-left (l .first k h)) (λ h. f-right (r .first k h)) (or-cases _ _ e);
         snf =
             λ k e.
-            ⊎-elim (λ own. ⊎-elim (λ h. s-left (l .snf k h)) (λ h. s-right (r .snf k h)) (one-of _ _ own))
+            ⊎-elim (λ own. ⊎-elim (λ h. s-left (l .snf k h)) (λ h. s-right (r .snf k h)) (or-cases _ _ own))
             (λ met.
             ⊎-elim (λ h. let (a, b) = both _ _ h in s-first-left (l .first k a) (r .nullable b))
             (λ h. let (a, b) = both _ _ h in s-first-right (l .nullable a) (r .first k b))
-            (one-of _ _ met))
-            (one-of _ _ e);
+            (or-cases _ _ met))
+            (or-cases _ _ e);
       }
   ruled-sound (Then m n) l r =
       record {
@@ -156,12 +157,12 @@ module _ {node : ℕ → Node} {left right : Facts} where
             λ k e.
             ⊎-elim (λ h. let (a, b) = both _ _ h in f-hold (l .first k a) (r .productive b))
             (λ h. let (a, b) = both _ _ h in f-skip (l .nullable a) (r .first k b))
-            (one-of _ _ e);
+            (or-cases _ _ e);
         snf =
             λ k e.
             ⊎-elim (λ h. let (a, b) = both _ _ h in s-then-left (l .snf k a) (r .nullable b))
             (λ h. let (a, b) = both _ _ h in s-then-right (l .productive a) (r .snf k b))
-            (one-of _ _ e);
+            (or-cases _ _ e);
       }
   ruled-sound (Tagged m t) l r =
       record {

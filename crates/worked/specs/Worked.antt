@@ -1,18 +1,16 @@
 -- The worked table: the cases that document 01 marks P, each with the answers that it gives, and what it means that one holds.
-use Prim.Native.Nat.{ℕ, _*_, _-_, _<_}
+use Prim.Native.Nat.{ℕ, _*_, _-_, _≤_}
 use mathlib.Core.Path.{_≡_}
 use mathlib.Core.List.{List, [], _∷_, _++_, flatMap, flatten}
 use lib.ListN.{length, take, drop}
 use Rattle.words.specs.Words.{zeros}
-use Rattle.book.specs.Form.{DONE, formOf, bookOf}
+use Rattle.book.specs.Form.{DONE, bookOf}
 use Rattle.book.specs.declared.Node.{Node}
 use Rattle.book.specs.declared.Node.the-variants.{Fail, Empty, Token, Either, Then, Tagged, Ref}
-use Rattle.rules.specs.Rules.{Productive, Conflict, Reach}
-use Rattle.rules.specs.Conflicts.{Reported}
-use Rattle.plan.specs.Bytes.{wordBytes, planBytes}
-use Rattle.plan.specs.Cells.{Marks, Marked}
-use Rattle.plan.specs.Form.{rowsAt, planSize}
+use Rattle.plan.specs.Bytes.{wordBytes}
+use Rattle.plan.specs.Form.{rowsAt}
 use Rattle.plan.specs.Running.{emptied}
+use Rattle.compiler.specs.Compiles.{CONFLICT, answer, Compiles}
 use Rattle.reader.specs.declared.Reading.{Reading}
 use Rattle.reader.specs.Numbers.{DEEP, UNKNOWN, UNEXPECTED, END, NO-ROOM}
 use Rattle.reader.specs.Machine.{answered}
@@ -48,8 +46,8 @@ pub record Run : Type 0 where
   pub answer : Reading
   pub tree : List ℕ
 
--- a case: a book's first bytes; a book that has a conflict, its place and kind; or a book that passes, with its plan's size, the
--- plan's rows, and readings
+-- a case: a book's first bytes; a book that has a conflict, with its place and kind, whatever the plan
+-- room; or a book that passes, with its plan's size, the plan's rows, and readings
 pub data Case : Type 0 where
   begins : Written → List ℕ → Case
   conflicts : Written → ℕ → ℕ → Case
@@ -64,35 +62,19 @@ pub data Each {A : Type 0} (Of : A → Type 0) : List A → Type 0 where
 abbrev pub ReadsAs : List ℕ → Run → Type 0
 ReadsAs plan r = readOf plan (r .run) (r .slots) (r .room) ≡ outcome (r .answer) (r .tree ++ zeros (r .room - length (r .tree)))
 
--- a book is of good form and its start can produce some run
-pub record Fit (bytes : List ℕ) : Type 0 where
-  pub form-done : formOf bytes .number ≡ DONE
-  pub productive : Productive (bookOf bytes .node) (bookOf bytes .node (bookOf bytes .start))
-
--- the lowest reachable node with a conflict is at a place, and this kind is reported there
-pub record Conflicts (bytes : List ℕ) (place kind : ℕ) : Type 0 where
-  pub fit : Fit bytes
-  pub reached : Reach (bookOf bytes .node) (bookOf bytes .start) place
-  pub reported : Reported (bookOf bytes .node) (bookOf bytes .node place) kind
-  pub least : (m : ℕ) → m < place → Reach (bookOf bytes .node) (bookOf bytes .start) m
-      → Conflict (bookOf bytes .node) (bookOf bytes .node m) → ⊥
-
--- no reachable node has a conflict, and the plan by the rules' marks has a size and these rows, and reads as the readings say
+-- compiling a book with room enough is done, with a plan of a size that has these rows, and reads as the readings say
 pub record Passes (bytes : List ℕ) (size : ℕ) (rows : List (List ℕ)) (runs : List Run) : Type 0 where
-  pub fit : Fit bytes
-  pub free : (m : ℕ) → Reach (bookOf bytes .node) (bookOf bytes .start) m
-      → Conflict (bookOf bytes .node) (bookOf bytes .node m) → ⊥
-  pub marks : Marks
-  pub marked : Marked (bookOf bytes .node) marks
-  pub size-is : planSize (bookOf bytes .count) (bookOf bytes .kinds) ≡ size
-  pub sized : length (planBytes bytes marks) ≡ size
-  pub rows-are : drop (rowsAt (bookOf bytes .count)) (planBytes bytes marks) ≡ flatten rows
-  pub read : Each (ReadsAs (planBytes bytes marks)) runs
+  pub plan : List ℕ
+  pub compiled : (room : ℕ) → size ≤ room → Compiles bytes room (answer DONE 0 0 size) (plan ++ zeros (room - size))
+  pub sized : length plan ≡ size
+  pub rows-are : drop (rowsAt (bookOf bytes .count)) plan ≡ flatten rows
+  pub read : Each (ReadsAs plan) runs
 
 -- what it means that a case holds
 abbrev pub Holds : Case → Type 0
 Holds (begins book bytes) = take 18 (bookBytes book) ≡ bytes
-Holds (conflicts book place kind) = Conflicts (bookBytes book) place kind
+Holds (conflicts book place kind) =
+    (room : ℕ) → Compiles (bookBytes book) room (answer CONFLICT place kind 0) (zeros room)
 Holds (passes book size rows runs) = Passes (bookBytes book) size rows runs
 
 -- ---- the table
