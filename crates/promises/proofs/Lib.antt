@@ -1,3 +1,4 @@
 pub mod Kept
 mod Listed
+mod Meant
 mod Outcomes

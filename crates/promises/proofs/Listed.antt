@@ -69,7 +69,8 @@ compile-answers {bytes} {room} (done {marks} f p c fits marked) =
     record {
       listed = omega arith;
       whole = simp (length-append, length-replicate) (omega (arith, plan-long bytes marks f));
-      refused-zero = λ refused. absurd (refused refl) }
+      refused-zero = λ refused. absurd (refused refl);
+    }
 
 -- a plan that is not judged done is refused as 8 or 9
 plan-listed : (plan : List ℕ) → planJudged plan .number ≢ DONE → (8 ≤ planJudged plan .number) × (planJudged plan .number ≤ 9)
@@ -103,17 +104,19 @@ module _ (plan run : List ℕ) (slots room : ℕ) where
       → ReadAnswers plan run room (acceptedOf (length run) room records)
   unfolding acceptedOf
   accepted-answers records few =
-      elim (decLe (length records) room)
-      [ yes fits ↦
-          rw (le-leb (length records) room fits)
-          (record {
-            listed = inl refl;
-            whole = simp (length-append, length-replicate) (omega arith);
-            refused-zero = λ refused. absurd (refused refl);
-            few-records = few })
-      | no full ↦
-          rw (lt-leb (length records) room (omega arith))
-          (record { listed = inr (omega arith); whole = length-replicate room 0; refused-zero = λ refused. refl; few-records = few }) ]
+      elim (decLe (length records) room) [
+        | yes fits ↦
+            rw (le-leb (length records) room fits)
+            (record {
+              listed = inl refl;
+              whole = simp (length-append, length-replicate) (omega arith);
+              refused-zero = λ refused. absurd (refused refl);
+              few-records = few;
+            })
+        | no full ↦
+            rw (lt-leb (length records) room (omega arith))
+            (record { listed = inr (omega arith); whole = length-replicate room 0; refused-zero = λ refused. refl; few-records = few })
+      ]
 
   outcome-answers : (a : Answer) → reading p run ≡ a → ReadAnswers plan run room (outcomeOf p (length run) room a)
   unfolding outcomeOf planFrom
@@ -127,14 +130,62 @@ module _ (plan run : List ℕ) (slots room : ℕ) where
   pub read-answers : ReadAnswers plan run room (readOf plan run slots room)
   unfolding runOf
   read-answers =
-      elim (ℕ-discrete (planJudged plan .number) DONE)
-      [ yes good ↦
-          elim (decLe (length run) 65535)
-          [ yes short ↦
-              elim (decLt 0 slots)
-              [ yes some ↦ rw (read-runs plan run slots room good short some) (outcome-answers (reading p run) refl)
-              | no none ↦ rw (read-slotless plan run slots room good short (omega arith)) (refused-answers _ _ _ (omega arith) (omega arith)) ]
-          | no long ↦ rw (read-long plan run slots room good (omega arith)) (refused-answers _ _ _ (omega arith) (omega arith)) ]
-      | no bad ↦
-          let listed = plan-listed plan bad in
-          rw (read-form plan run slots room bad) (refused-answers _ _ _ (listed .0) (omega arith)) ]
+      elim (ℕ-discrete (planJudged plan .number) DONE) [
+        | yes good ↦
+            elim (decLe (length run) 65535) [
+              | yes short ↦
+                  elim (decLt 0 slots) [
+                    | yes some ↦ rw (read-runs plan run slots room good short some) (outcome-answers (reading p run) refl)
+                    | no none ↦ rw (read-slotless plan run slots room good short (omega arith)) (refused-answers _ _ _ (omega arith) (omega arith))
+                  ]
+              | no long ↦ rw (read-long plan run slots room good (omega arith)) (refused-answers _ _ _ (omega arith) (omega arith))
+            ]
+        | no bad ↦
+            let listed = plan-listed plan bad in
+            rw (read-form plan run slots room bad) (refused-answers _ _ _ (listed .0) (omega arith))
+      ]
+
+-- what a reading that is done has: the records of the accepted run, and their number
+pub record AcceptedRecords (plan run : List ℕ) (slots room : ℕ) : Type 0 where
+  pub records : List ℕ
+  pub accepts : reading (planOf plan (λ n. ltb n slots)) run ≡ accepted records
+  pub records-are : readOf plan run slots room .reading .records ≡ length records
+
+module _ (plan run : List ℕ) (slots room : ℕ) where
+  number-of : {o : Outcome} → readOf plan run slots room ≡ o → readOf plan run slots room .reading .number ≡ DONE → o .reading .number ≡ DONE
+  number-of e is = sym (ap (λ (o : Outcome). o .reading .number) e) ∙ is
+
+  outcome-records : (a : Answer) → reading (p plan run slots room) run ≡ a → readOf plan run slots room ≡ outcomeOf (p plan run slots room) (length run) room a
+      → readOf plan run slots room .reading .number ≡ DONE → AcceptedRecords plan run slots room
+  unfolding outcomeOf acceptedOf
+  outcome-records (accepted records) e f is =
+      elim (decLe (length records) room) [
+        | yes fits ↦
+            record {
+              records = records;
+              accepts = e;
+              records-are = ap (λ (o : Outcome). o .reading .records) f ∙ rw (le-leb (length records) room fits);
+            }
+        | no full ↦ absurd (let z : 16 ≡ DONE = rw (lt-leb (length records) room (omega arith)) at (number-of f is) in omega arith)
+      ]
+  outcome-records (deep-at i) e f is = absurd (let z = number-of f is in omega arith)
+  outcome-records (unknown-at i held) e f is = absurd (let z = number-of f is in omega arith)
+  outcome-records (unexpected-at i held) e f is = absurd (let z = number-of f is in omega arith)
+  outcome-records (end-at i held) e f is = absurd (let z = number-of f is in omega arith)
+  outcome-records (runaway-at i) e f is = absurd (let z = number-of f is in omega arith)
+
+  pub accepted-records : readOf plan run slots room .reading .number ≡ DONE → AcceptedRecords plan run slots room
+  unfolding runOf
+  accepted-records is =
+      elim (ℕ-discrete (planJudged plan .number) DONE) [
+        | yes good ↦
+            elim (decLe (length run) 65535) [
+              | yes short ↦
+                  elim (decLt 0 slots) [
+                    | yes some ↦ outcome-records _ refl (read-runs plan run slots room good short some) is
+                    | no none ↦ absurd (let z = number-of (read-slotless plan run slots room good short (omega arith)) is in omega arith)
+                  ]
+              | no long ↦ absurd (let z = number-of (read-long plan run slots room good (omega arith)) is in omega arith)
+            ]
+        | no bad ↦ absurd (bad (number-of (read-form plan run slots room bad) is))
+      ]

@@ -67,7 +67,7 @@ module _ (p : Plan) (size room : ℕ) where
   -- the outcome of an accepted run, where its records have room
   pub accepted-outcome : (records : List ℕ) → length records ≤ room
       → outcomeOf p size room (accepted records)
-        ≡ outcome (answered DONE size (length records) 0) (records ++ zeros (room - length records))
+      ≡ outcome (answered DONE size (length records) 0) (records ++ zeros (room - length records))
   unfolding outcomeOf acceptedOf
   accepted-outcome records fits = rw (le-leb (length records) room fits)
 
@@ -132,8 +132,7 @@ module _ {b : Book} {run : List ℕ} where
   listed-number (means-end m) = inr (inr (inr refl))
 
 module _ {b : Book} (passes : Passes b) {run : List ℕ} (p : Plan) (room : ℕ) {a : Answer} (means : Means b run a)
-  (fits : (records : List ℕ) → a ≡ accepted records → length records ≤ room) where
-
+    (fits : (records : List ℕ) → a ≡ accepted records → length records ≤ room) where
   -- another answer that means the run has the same number and the same place
   same-number : {other : Answer} → Means b run other → outcomeOf p (length run) room a .reading .number ≡ numberOf other
   same-number m =
@@ -151,19 +150,23 @@ module _ {b : Book} (passes : Passes b) {run : List ℕ} (p : Plan) (room : ℕ)
   unfolding numberOf placeOf
   reads-as-meant =
       record {
-        accepts =
-          (λ e. lawful-number means (sym (outcome-number p _ room a fits) ∙ e),
-          λ d. same-number (means-accepted (record { derivation = d; records-are = refl })));
+        accepts = (
+          λ e. lawful-number means (sym (outcome-number p _ room a fits) ∙ e),
+          λ d. same-number (means-accepted (record { derivation = d; records-are = refl })),
+        );
         writes = λ d.
-          ap (outcomeOf p (length run) room) (accepted-is d) ∙ accepted-outcome p (length run) room _ (fits _ (accepted-is d));
-        unknown = λ i.
-          (λ e. unknown-number means (sym (outcome-number p _ room a fits) ∙ e .0) (sym (outcome-place p _ room a fits) ∙ e .1),
-          λ m. (same-number (means-unknown {held = []} (m .0) (m .1)), same-place (means-unknown {held = []} (m .0) (m .1))));
-        unexpected = λ i.
-          (λ e. unexpected-number means (sym (outcome-number p _ room a fits) ∙ e .0) (sym (outcome-place p _ room a fits) ∙ e .1),
-          λ m. (same-number (means-unexpected {held = []} (m .0) (m .1)), same-place (means-unexpected {held = []} (m .0) (m .1))));
-        ends = λ i.
-          (λ e. end-number means (sym (outcome-number p _ room a fits) ∙ e .0) (sym (outcome-place p _ room a fits) ∙ e .1),
-          λ m. (same-number (means-end {held = []} m), same-place (means-end {held = []} m)));
+            ap (outcomeOf p (length run) room) (accepted-is d) ∙ accepted-outcome p (length run) room _ (fits _ (accepted-is d));
+        unknown = λ i. (
+          λ e. unknown-number means (sym (outcome-number p _ room a fits) ∙ e .0) (sym (outcome-place p _ room a fits) ∙ e .1),
+          λ m. (same-number (means-unknown {held = []} (m .0) (m .1)), same-place (means-unknown {held = []} (m .0) (m .1))),
+        );
+        unexpected = λ i. (
+          λ e. unexpected-number means (sym (outcome-number p _ room a fits) ∙ e .0) (sym (outcome-place p _ room a fits) ∙ e .1),
+          λ m. (same-number (means-unexpected {held = []} (m .0) (m .1)), same-place (means-unexpected {held = []} (m .0) (m .1))),
+        );
+        ends = λ i. (
+          λ e. end-number means (sym (outcome-number p _ room a fits) ∙ e .0) (sym (outcome-place p _ room a fits) ∙ e .1),
+          λ m. (same-number (means-end {held = []} m), same-place (means-end {held = []} m)),
+        );
         listed = rw (outcome-number p (length run) room a fits) (listed-number means);
       }

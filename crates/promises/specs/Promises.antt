@@ -63,7 +63,7 @@ pub record ReadsAsMeant (b : Book) (run : List ℕ) (room : ℕ) (o : Outcome) :
   -- and writes the only derivation there is, each part that takes no event as one empty record
   pub writes : (d : Lawful b run)
       → o ≡ outcome (answered DONE (length run) (length (tree (b .start) d)) 0)
-        (tree (b .start) d ++ zeros (room - length (tree (b .start) d)))
+      (tree (b .start) d ++ zeros (room - length (tree (b .start) d)))
   -- otherwise it names the earliest event at which no lawful run still agrees: 12 exactly if the event's kind is not below K, else 13
   pub unknown : (i : ℕ) → ((o .reading .number ≡ UNKNOWN) × (o .reading .place ≡ i))
       ↔ (Refuses b run i × (b .kinds ≤ getD run i 0))
