@@ -1,3 +1,4 @@
+pub mod Bytes
 pub mod Cells
 pub mod Form
 pub mod Running

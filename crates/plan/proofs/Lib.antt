@@ -1,0 +1,6 @@
+pub mod Agrees
+mod Columns
+pub mod Laws
+mod Listed
+pub mod PlanBytes
+mod Rows
