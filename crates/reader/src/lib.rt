@@ -37,6 +37,7 @@ pub struct Spot {
 }
 
 // What a reading answers.
+#[repr(C)]
 pub struct Reading {
     pub number: u32,
     pub place: u32,
