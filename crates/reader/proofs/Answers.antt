@@ -18,8 +18,16 @@ use Rattle.plan.specs.Form.{PLAN-FORM, CELL, planOf, planCount, planKinds, plan
 use Rattle.reader.specs.declared.Reading.{Reading}
 use Rattle.reader.specs.Numbers.{LONG, DEEP, UNKNOWN, UNEXPECTED, END, RUNAWAY, NO-ROOM}
 use Rattle.reader.specs.Machine.{answered}
-use Rattle.reader.specs.Reads.{Outcome, bare, acceptedOf, outcomeOf, runOf, readOf}
+use Rattle.reader.specs.Reads.{Outcome, Reads, bare, acceptedOf, outcomeOf, runOf, readOf}
 use Rattle.reader.proofs.Records.{records-few}
+
+-- the answer and what is left of the buffers are determined
+pub reads-unique : {plan run held tree : List ℕ} {answer answer′ : Reading} {held-after held-after′ tree-after tree-after′ : List ℕ}
+    → Reads plan run held tree answer held-after tree-after → Reads plan run held tree answer′ held-after′ tree-after′
+    → (answer ≡ answer′) × (held-after ≡ held-after′) × (tree-after ≡ tree-after′)
+reads-unique r s =
+    let same = r .outcome-is ∙ sym (s .outcome-is) in
+    (ap (λ (o : Outcome). o .reading) same, r .slots-zero ∙ sym (s .slots-zero), ap (λ (o : Outcome). o .tree) same)
 
 -- what holds on both sides of a test holds of the one taken
 by-test : (P : Outcome → Type 0) (test : Bool) {yes-side no-side : Outcome} → (test ≡ true → P yes-side) → (test ≡ false → P no-side) → P (cond test yes-side no-side)
@@ -52,6 +60,7 @@ judged-bad plan = by-form (planGood plan (planCount plan) (planKinds plan)) (ltb
   where
     Bad : Judged → Type 0
     Bad j = (j .number ≡ DONE → ⊥) → (8 ≤ j .number) × (j .number ≤ 15)
+
     by-form : (form cell : Bool) (place : ℕ) → Bad (cond form (cond cell (judged CELL place) (judged DONE 0)) (judged PLAN-FORM 0))
     by-form true true place bad = omega arith
     by-form true false place bad = absurd (bad refl)
@@ -69,6 +78,7 @@ read-told plan run slots room =
   where
     Tells : Outcome → Type 0
     Tells o = Told (planOf plan (λ n. ltb n slots)) run room o
+
     refused : (8 ≤ planJudged plan .number) × (planJudged plan .number ≤ 15) → Tells (bare room (answered (planJudged plan .number) (planJudged plan .place) 0 0))
     refused (low, high) = told-refused (planJudged plan .number) (planJudged plan .place) 0 low high
 
@@ -97,7 +107,7 @@ module _ {p : Plan} {run : List ℕ} {room : ℕ} where
 
   -- the count of records is the length of the definition's record list, and of nothing else
   pub records-counted : {o : Outcome} → Told p run room o → (o .reading .number ≡ DONE) ⊎ (o .reading .number ≡ NO-ROOM)
-    → (records : List ℕ) × (reading p run ≡ accepted records) × (o .reading .records ≡ length records)
+      → (records : List ℕ) × (reading p run ≡ accepted records) × (o .reading .records ≡ length records)
   unfolding acceptedOf
   records-counted (told-accepted records is) answered-so = (records, is, by-test (λ o. o .reading .records ≡ length records) (leb (length records) room) (λ fits. refl) (λ full. refl))
   records-counted (told-refused number place kinds low high) answered-so = absurd (⊎-elim (λ done. omega arith) (λ full. omega arith) answered-so)

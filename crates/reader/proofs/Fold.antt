@@ -42,14 +42,16 @@ module _ (p : Plan) where
     where
       ends : (answer : Answer) → logged written answer ≡ answer → logged written answer ≡ closed p (steps p (stopped answer) run)
       ends answer same = same ∙ sym (ap (closed p) (stopped-stays answer run))
+
       by-step : (s : Step) → ((h w : List ℕ) → logged w (reads p (suc at) h run) ≡ closed p (steps p (going (suc at) h w) run))
-        → logged written (onward s (λ h. reads p (suc at) h run) at held) ≡ closed p (steps p (advanced s at held written) run)
+          → logged written (onward s (λ h. reads p (suc at) h run) at held) ≡ closed p (steps p (advanced s at held written) run)
       by-step (taken h records) rest = logged-logged written records (reads p (suc at) h run) ∙ rest h (written ++ records)
       by-step refused rest = ends (unexpected-at at held) refl
       by-step deep rest = ends (deep-at at) refl
       by-step runaway rest = ends (runaway-at at) refl
+
       by-kind : (known : Bool) (s : Step) → ((h w : List ℕ) → logged w (reads p (suc at) h run) ≡ closed p (steps p (going (suc at) h w) run))
-        → logged written (pick known (onward s (λ h. reads p (suc at) h run) at held) (unknown-at at held))
+          → logged written (pick known (onward s (λ h. reads p (suc at) h run) at held) (unknown-at at held))
           ≡ closed p (steps p (cond known (advanced s at held written) (stopped (unknown-at at held))) run)
       by-kind true s rest = by-step s rest
       by-kind false s rest = ends (unknown-at at held) refl

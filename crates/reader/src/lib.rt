@@ -7,24 +7,33 @@ ghost use Rattle.plan.specs.Running.{rowFirst};
 ghost use Rattle.plan.specs.Form.{planNodesAt, cellAt, planJudged};
 ghost use Rattle.reader.specs.Machine.{after, ended, answered, lastOf, expectedOf, walkOf, eventOf, finishOf, closeOf, readsOf, told, refusal};
 ghost use Rattle.reader.specs.Ready.{onSlots, Runnable, Ready};
-ghost use Rattle.reader.specs.Reads.{Left, Reads, outcome, bare, runOf, settledOf};
+ghost use Rattle.reader.specs.Reads.{Reads, outcome, bare, settledOf, runOf, readOf};
 use book::DONE;
 use kinds::single;
-use plan::judge;
 use plan::NODES_AT;
 use plan::SETTINGS_AT;
+use plan::judge;
 use words::clear_records;
 use words::u16_at;
 use words::wide;
 
 // The answers' numbers.
 pub const LONG: u32 = 10;
+
 pub const DEEP: u32 = 11;
+
 pub const UNKNOWN: u32 = 12;
+
 pub const UNEXPECTED: u32 = 13;
+
 pub const END: u32 = 14;
+
 pub const RUNAWAY: u32 = 15;
+
 pub const NO_ROOM: u32 = 16;
+
+// The most events of a run.
+pub const MOST_EVENTS: usize = 65535;
 
 // What is added to a node's number in an empty record.
 pub const EMPTY: usize = 32768;
@@ -91,19 +100,15 @@ fn walk(
     held: &mut [u16],
     tree: &mut [u16],
 ) -> Spot
-    requires {
-        ⌜ (Ready (now plan) nodes kinds count written (now held)) × (kind < kinds) × (from < nodes) ⌝
-    }
-    ensures {
-        λ r. ⌜ after r (now (held .exit)) (now (tree .exit)) ≡ walkOf (onSlots (now (plan .entry)) nodes kinds (length (now (held .entry)))) kind nodes from count written (now (held .entry)) (now (tree .entry)) ⌝
-    }
+    requires { ⌜ (Ready (now plan) nodes kinds count written (now held)) × (kind < kinds) × (from < nodes) ⌝ }
+    ensures { λ r. ⌜ after r (now (held .exit)) (now (tree .exit)) ≡ walkOf (onSlots (now (plan .entry)) nodes kinds (length (now (held .entry)))) kind nodes from count written (now (held .entry)) (now (tree .entry)) ⌝ }
 {
-    let mut left = nodes;
+    let mut visits = 0;
     let mut node = from;
     let mut parts = count;
     let mut records = written;
-    while 0 < left {
-        left -= 1;
+    while visits < nodes {
+        visits += 1;
         note(tree, records, node);
         records += 1;
         match cell_at(plan, nodes, kinds, node, kind) {
@@ -165,9 +170,7 @@ pub fn event(
     tree: &mut [u16],
 ) -> Spot
     requires { ⌜ Ready (now plan) nodes kinds count written (now held) ⌝ }
-    ensures {
-        λ r. ⌜ after r (now (held .exit)) (now (tree .exit)) ≡ eventOf (onSlots (now (plan .entry)) nodes kinds (length (now (held .entry)))) kind count written (now (held .entry)) (now (tree .entry)) ⌝
-    }
+    ensures { λ r. ⌜ after r (now (held .exit)) (now (tree .exit)) ≡ eventOf (onSlots (now (plan .entry)) nodes kinds (length (now (held .entry)))) kind count written (now (held .entry)) (now (tree .entry)) ⌝ }
 {
     if kinds <= kind {
         return Spot {
@@ -212,9 +215,7 @@ fn finish(
     tree: &mut [u16],
 ) -> Spot
     requires { ⌜ Ready (now plan) nodes kinds count written (now held) ⌝ }
-    ensures {
-        λ r. ⌜ after r (now (held .entry)) (now (tree .exit)) ≡ finishOf (onSlots (now (plan .entry)) nodes kinds (length (now (held .entry)))) count written (now (held .entry)) (now (tree .entry)) ⌝
-    }
+    ensures { λ r. ⌜ after r (now (held .entry)) (now (tree .exit)) ≡ finishOf (onSlots (now (plan .entry)) nodes kinds (length (now (held .entry)))) count written (now (held .entry)) (now (tree .entry)) ⌝ }
 {
     let mut parts = count;
     let mut records = written;
@@ -266,11 +267,16 @@ fn last_part(held: &[u16], count: usize) -> usize
 }
 
 // The kinds that a refusal tells, where so many parts were held, this one last.
-fn expected_at(plan: &[u8], nodes: usize, kinds: usize, number: u32, count: usize, last: usize) -> u64
+fn expected_at(
+    plan: &[u8],
+    nodes: usize,
+    kinds: usize,
+    number: u32,
+    count: usize,
+    last: usize,
+) -> u64
     requires { ⌜ (Runnable (now plan) nodes kinds) × (last < nodes) ⌝ }
-    ensures {
-        λ r. ⌜ r ≡ told number (expectedOf (onSlots (now (plan .entry)) nodes kinds 0) count last) ⌝
-    }
+    ensures { λ r. ⌜ r ≡ told number (expectedOf (onSlots (now (plan .entry)) nodes kinds 0) count last) ⌝ }
 {
     if number == DEEP {
         return 0;
@@ -295,9 +301,7 @@ fn refuse(
     last: usize,
 ) -> Reading
     requires { ⌜ (Runnable (now plan) nodes kinds) × (last < nodes) × (at < 65536) ⌝ }
-    ensures {
-        λ r. ⌜ r ≡ refusal number at (expectedOf (onSlots (now (plan .entry)) nodes kinds 0) count last) ⌝
-    }
+    ensures { λ r. ⌜ r ≡ refusal number at (expectedOf (onSlots (now (plan .entry)) nodes kinds 0) count last) ⌝ }
 {
     Reading {
         number: number,
@@ -318,12 +322,8 @@ fn close(
     held: &[u16],
     tree: &mut [u16],
 ) -> Reading
-    requires {
-        ⌜ (Ready (now plan) nodes kinds count written (now held)) × (at < 65536) ⌝
-    }
-    ensures {
-        λ r. ⌜ ended r (now (held .entry)) (now (tree .exit)) ≡ closeOf (onSlots (now (plan .entry)) nodes kinds (length (now (held .entry)))) at count written (now (held .entry)) (now (tree .entry)) ⌝
-    }
+    requires { ⌜ (Ready (now plan) nodes kinds count written (now held)) × (at < 65536) ⌝ }
+    ensures { λ r. ⌜ ended r (now (held .entry)) (now (tree .exit)) ≡ closeOf (onSlots (now (plan .entry)) nodes kinds (length (now (held .entry)))) at count written (now (held .entry)) (now (tree .entry)) ⌝ }
 {
     let last = last_part(held, count);
     let spot = finish(plan, nodes, kinds, count, written, held, tree);
@@ -347,19 +347,24 @@ fn events(
     held: &mut [u16],
     tree: &mut [u16],
 ) -> Reading
-    requires {
-        ⌜ (Ready (now plan) nodes kinds 1 0 (now held)) × (length (now run) ≤ 65535) ⌝
-    }
-    ensures {
-        λ r. ⌜ ended r (now (held .exit)) (now (tree .exit)) ≡ readsOf (onSlots (now (plan .entry)) nodes kinds (length (now (held .entry)))) 0 (now (run .entry)) 1 0 (now (held .entry)) (now (tree .entry)) ⌝
-    }
+    requires { ⌜ (Ready (now plan) nodes kinds 1 0 (now held)) × (length (now run) ≤ 65535) ⌝ }
+    ensures { λ r. ⌜ ended r (now (held .exit)) (now (tree .exit)) ≡ readsOf (onSlots (now (plan .entry)) nodes kinds (length (now (held .entry)))) 0 (now (run .entry)) 1 0 (now (held .entry)) (now (tree .entry)) ⌝ }
 {
     let mut at = 0;
     let mut count = 1;
     let mut written = 0;
     while at < run.len() {
         let last = last_part(held, count);
-        let spot = event(plan, nodes, kinds, wide(run[at]), count, written, held, tree);
+        let spot = event(
+            plan,
+            nodes,
+            kinds,
+            wide(run[at]),
+            count,
+            written,
+            held,
+            tree,
+        );
         if spot.number != DONE {
             return refuse(plan, nodes, kinds, spot.number, at, count, last);
         }
@@ -370,13 +375,10 @@ fn events(
     close(plan, nodes, kinds, at, count, written, held, tree)
 }
 
-// A refusal before any event: both buffers are cleared.
-fn refuse_all(number: u32, place: u32, held: &mut [u16], tree: &mut [u16]) -> Reading
-    ensures {
-        λ r. ⌜ Left (now (held .entry)) (bare (length (now (tree .entry))) (answered number place 0 0)) r (now (held .exit)) (now (tree .exit)) ⌝
-    }
+// A refusal before any event: the tree is cleared.
+fn refuse_all(number: u32, place: u32, tree: &mut [u16]) -> Reading
+    ensures { λ r. ⌜ outcome r (now (tree .exit)) ≡ bare (length (now (tree .entry))) (answered number place 0 0) ⌝ }
 {
-    clear_records(held);
     clear_records(tree);
     Reading {
         number: number,
@@ -410,36 +412,37 @@ fn settle(answer: Reading, tree: &mut [u16]) -> Reading
 
 // The run by a plan that is judged done, with a slot at least.
 fn run_plan(plan: &[u8], run: &[u8], held: &mut [u16], tree: &mut [u16]) -> Reading
-    requires {
-        ⌜ (planJudged (now plan) .number ≡ 0) × (length (now run) ≤ 65535) × (0 < length (now held)) ⌝
-    }
-    ensures {
-        λ r. ⌜ Left (now (held .entry)) (runOf (now (plan .entry)) (now (run .entry)) (length (now (held .entry))) (length (now (tree .entry)))) r (now (held .exit)) (now (tree .exit)) ⌝
-    }
+    requires { ⌜ (planJudged (now plan) .number ≡ 0) × (length (now run) ≤ 65535) × (0 < length (now held)) ⌝ }
+    ensures { λ r. ⌜ outcome r (now (tree .exit)) ≡ runOf (now (plan .entry)) (now (run .entry)) (length (now (held .entry))) (length (now (tree .entry))) ⌝ }
 {
     let nodes = u16_at(plan, 12) / 6;
     let kinds = u16_at(plan, SETTINGS_AT);
     held[0] = u16_at(plan, SETTINGS_AT + 2) as u16;
-    let answer = events(plan, nodes, kinds, run, held, tree);
-    clear_records(held);
-    settle(answer, tree)
+    settle(events(plan, nodes, kinds, run, held, tree), tree)
 }
 
-// Reads a run by a plan: the answer, with the tree's records in `tree`, and `held` zero.
-pub fn read(plan: &[u8], run: &[u8], held: &mut [u16], tree: &mut [u16]) -> Reading
-    ensures {
-        λ r. ⌜ Reads (now (plan .entry)) (now (run .entry)) (now (held .entry)) (now (tree .entry)) r (now (held .exit)) (now (tree .exit)) ⌝
-    }
+// The answer, by each test in turn, with the records in the tree.
+fn answer(plan: &[u8], run: &[u8], held: &mut [u16], tree: &mut [u16]) -> Reading
+    ensures { λ r. ⌜ outcome r (now (tree .exit)) ≡ readOf (now (plan .entry)) (now (run .entry)) (length (now (held .entry))) (length (now (tree .entry))) ⌝ }
 {
     let form = judge(plan);
     if form.number != DONE {
-        return refuse_all(form.number, form.place, held, tree);
+        return refuse_all(form.number, form.place, tree);
     }
-    if 65535 < run.len() {
-        return refuse_all(LONG, 0, held, tree);
+    if MOST_EVENTS < run.len() {
+        return refuse_all(LONG, 0, tree);
     }
     if held.len() == 0 {
-        return refuse_all(DEEP, 0, held, tree);
+        return refuse_all(DEEP, 0, tree);
     }
     run_plan(plan, run, held, tree)
+}
+
+// Reads a run by a plan: the answer, with the records in the tree; the slots are zero after every call.
+pub fn read(plan: &[u8], run: &[u8], held: &mut [u16], tree: &mut [u16]) -> Reading
+    ensures { λ r. ⌜ Reads (now (plan .entry)) (now (run .entry)) (now (held .entry)) (now (tree .entry)) r (now (held .exit)) (now (tree .exit)) ⌝ }
+{
+    let reading = answer(plan, run, held, tree);
+    clear_records(held);
+    reading
 }

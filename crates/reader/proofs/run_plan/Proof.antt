@@ -5,7 +5,6 @@ use native.Mathlib.Omega.{arith}
 use borrow.Author.Needs.{needs}
 use lib.Dec.{ltb}
 use lib.ListN.{length, set, length-set}
-use Rattle.words.specs.Words.{zeros}
 use Rattle.plan.specs.Form.{planOf, planCount, planKinds, planStart}
 use Rattle.reader.specs.Machine.{ended, readsOf}
 use Rattle.reader.proofs.Plans.{runnable}
@@ -23,8 +22,8 @@ held-kept v = v .events .kept .1 .1 .1 .1 .0 ∙ length-set (v .before .before .
 
 ended-is : (v : tie.After-events)
     → ended (v .events .result) (v .events .last .1 .1 .1 .1 .0) (v .events .last .1 .1 .1 .1 .1 .0)
-      ≡ readsOf (planOf (v .before .before .before .before .before .before .before .before .before .before .args .plan .now) (λ n. ltb n (length (v .before .before .before .before .before .before .before .before .before .before .args .held .now)))) 0 (v .before .before .before .before .before .before .before .before .before .before .args .run .now) 1 0
-      (set (v .before .before .before .before .before .before .before .before .before .before .args .held .now) 0 (planStart (v .before .before .before .before .before .before .before .before .before .before .args .plan .now))) (v .before .before .before .before .before .before .before .before .before .before .args .tree .now)
+    ≡ readsOf (planOf (v .before .before .before .before .before .before .before .before .before .before .args .plan .now) (λ n. ltb n (length (v .before .before .before .before .before .before .before .before .before .before .args .held .now)))) 0 (v .before .before .before .before .before .before .before .before .before .before .args .run .now) 1 0
+    (set (v .before .before .before .before .before .before .before .before .before .before .args .held .now) 0 (planStart (v .before .before .before .before .before .before .before .before .before .before .args .plan .now))) (v .before .before .before .before .before .before .before .before .before .before .args .tree .now)
 unfolding planCount planKinds planStart
 ended-is v =
     rw (v .before .before .before .before .before .u16-at .ensures .0, v .before .before .before .before .u16-at2 .ensures .0, v .before .before .before .u16-at3 .ensures .0, length-set (v .before .before .before .before .before .before .before .before .before .before .args .held .now) 0) at
@@ -52,37 +51,32 @@ events-requires : tie.Need-events-requires
 unfolding planCount planKinds planStart
 events-requires c κs =
     let args = c .before .before .before .before .before .before .before .before .before .args in
-    let pre = c .before .before .before .before .before .before .before .before .before .pre in
-    (record {
-      runs = rw (c .before .before .before .before .u16-at .ensures .0, c .before .before .before .u16-at2 .ensures .0) (runnable (args .plan .now) (pre .0));
-      parts = rw (c .before .before .before .before .u16-at .ensures .0, c .before .before .u16-at3 .ensures .0, length-set (args .held .now) 0) (started (args .plan .now) (args .run .now) (args .held .now) (args .tree .now) (pre .0) (pre .2));
-      few-records = omega arith;
-    }, pre .1)
-
-clear-records-requires : tie.Need-clear-records-requires
-clear-records-requires c κs = search needs
+    let pre = c .before .before .before .before .before .before .before .before .before .pre in (
+      record {
+        runs = rw (c .before .before .before .before .u16-at .ensures .0, c .before .before .before .u16-at2 .ensures .0) (runnable (args .plan .now) (pre .0));
+        parts = rw (c .before .before .before .before .u16-at .ensures .0, c .before .before .u16-at3 .ensures .0, length-set (args .held .now) 0) (started (args .plan .now) (args .run .now) (args .held .now) (args .tree .now) (pre .0) (pre .2));
+        few-records = omega arith;
+      },
+      pre .1,
+    )
 
 settle-requires : tie.Need-settle-requires
 settle-requires c κs = search needs
 
 same-length : tie.Need-same-length
-same-length c = c .before .before .before .before .before .before .clear-records .kept .0 ∙ held-kept (c .before .before .before .before .before .before .before .before .before .before .before .before)
+same-length c = held-kept (c .before .before .before .before .before .before .before .before)
 
 same-length-2 : tie.Need-same-length-2
 same-length-2 c = search needs
 
 returns : tie.Need-returns
 returns c =
-    let args = c .before .before .before .before .before .before .before .before .before .before .before .before .before .before .before .before .before .before .before .before .before .before .args in
-    let pre = c .before .before .before .before .before .before .before .before .before .before .before .before .before .before .before .before .before .before .before .before .before .before .pre in
-    let v = c .before .before .before .before .before .before .before .before .before .before .before .before in
-    record {
-      outcome-is =
-          c .before .before .settle .ensures
-          ∙ run-same (args .plan .now) (args .run .now) (args .held .now) (args .tree .now) (pre .0) (pre .2)
-          (ended (v .events .result) (v .events .last .1 .1 .1 .1 .0) (v .events .last .1 .1 .1 .1 .1 .0)) (ended-is v) (v .events .kept .1 .1 .1 .1 .1 .0);
-      slots-zero = c .before .before .before .before .before .before .clear-records .ensures ∙ ap zeros (held-kept v);
-    }
+    let args = c .before .before .before .before .before .before .before .before .before .before .before .before .before .before .before .before .before .before .args in
+    let pre = c .before .before .before .before .before .before .before .before .before .before .before .before .before .before .before .before .before .before .pre in
+    let v = c .before .before .before .before .before .before .before .before in
+    c .before .before .settle .ensures
+    ∙ run-same (args .plan .now) (args .run .now) (args .held .now) (args .tree .now) (pre .0) (pre .2)
+    (ended (v .events .result) (v .events .last .1 .1 .1 .1 .0) (v .events .last .1 .1 .1 .1 .1 .0)) (ended-is v) (v .events .kept .1 .1 .1 .1 .1 .0)
 
 pub run-plan-spec : {M : Type 1} → statement M
 run-plan-spec =
@@ -95,7 +89,6 @@ run-plan-spec =
     cast-held
     slice-write-held
     events-requires
-    clear-records-requires
     settle-requires
     same-length
     same-length-2
