@@ -13,6 +13,7 @@ ghost use Rattle.compiler.specs.Stages.{Clear, GoodForm, Known, Sound};
 use book::DONE;
 use book::NODES_AT;
 use book::SETTINGS_AT;
+use plan::write_plan;
 use words::clear_bytes;
 use words::u16_at;
 
@@ -82,7 +83,7 @@ fn finish(book: &[u8], count: usize, table: &[u64], plan: &mut [u8]) -> Compiled
     if plan.len() < size {
         return answered(PLAN_ROOM, 0, 0, size);
     }
-    plan::write_plan(book, count, kinds, table, plan);
+    write_plan(book, count, kinds, table, plan);
     answered(DONE, 0, 0, size)
 }
 
