@@ -6,26 +6,27 @@ ARCHIVE = target/staticlib/libdrumbook.a
 EXAMPLES = target/examples
 
 .PHONY: run test archive clean
+.SECONDARY:
 
-run: archive run-form
+run: archive
+	@$(MAKE) --no-print-directory run-form
 
 test:
 	@scripts/gate
 
+# proves the library and writes the archive that C and Rust link
 archive:
-	@rt staticlib drumbook > target.log 2>&1 || { cat target.log; rm -f target.log; exit 1; }
-	@rm -f target.log
+	@mkdir -p target
+	@rt staticlib drumbook > target/archive.log 2>&1 || { cat target/archive.log; exit 1; }
 
-# builds and runs one C example against the header and the archive, and compares what it prints
+# builds one C example against the header and the archive, runs it, and compares what it prints
 run-%: $(EXAMPLES)/%
-	@$< | diff - host/$*.out && cat host/$*.out
+	@$< | tee $<.out
+	@diff $<.out host/$*.out
 
-$(EXAMPLES)/%: host/%.c include/drumbook.h $(ARCHIVE)
+$(EXAMPLES)/%: host/%.c host/rinse.h host/words.h include/drumbook.h $(ARCHIVE)
 	@mkdir -p $(EXAMPLES)
 	@$(CC) $(CFLAGS) $(WARNINGS) -Iinclude $< $(ARCHIVE) -o $@
-
-$(ARCHIVE):
-	@$(MAKE) --no-print-directory archive
 
 clean:
 	rm -rf target

@@ -30,10 +30,10 @@ enum {
 typedef struct {
     uint32_t number; /* DRUMBOOK_DONE, or the first of 1 to 4 that holds against the book */
     uint32_t place;  /* with DRUMBOOK_NODE the first bad node's number, otherwise 0 */
-} drumbook_judged;
+} drumbook_formed;
 
 /* Judges the form of a book: any bytes, of any length from 0 up. */
-drumbook_judged drumbook_form(const uint8_t *book, size_t book_len);
+drumbook_formed drumbook_form(const uint8_t *book, size_t book_len);
 
 #ifdef __cplusplus
 }

@@ -1,0 +1,6 @@
+mod Bounds
+pub mod Decisions
+pub mod Least
+pub mod Promise
+pub mod Some
+pub mod Unique
