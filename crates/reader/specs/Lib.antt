@@ -1,0 +1,4 @@
+pub mod Numbers
+pub mod Machine
+pub mod Ready
+pub mod Reads
