@@ -1,3 +1,4 @@
+mod Answers
 mod Bounds
 pub mod Decisions
 pub mod Least
