@@ -8,7 +8,7 @@ use mathlib.Core.Bool.{Bool, true, false, cond}
 use mathlib.Core.List.{List, [], _∷_, _++_, append-assoc, append-nil}
 use lib.Dec.{ltb}
 use lib.ListN.{length, getD, set, take, drop, length-append}
-use lib.Seq.{sets, length-sets, sets-eq, take-suc, take-all, take-at}
+use lib.Seq.{sets, length-sets, sets-eq, take-suc, take-all, take-at, drop-at}
 use borrow.Author.Tests.{lt-ltb, le-ltb, ltb-true, ltb-false}
 use Rattle.listed.specs.Lines.{Put, digit, digitsBy, digitsOf, spaced, recordText, recordLine, recordLines, refusedLine, acceptedLines, lineFeed}
 
@@ -19,11 +19,11 @@ pub sets-append : (xs ys out : List ℕ) (at : ℕ) → sets out at (xs ++ ys) �
 sets-append [] ys out at = rw add-zero
 sets-append (x ∷ xs) ys out at = rw (sets-append xs ys (set out at x) (suc at), add-suc, suc-add)
 
-pub put-none : (out : List ℕ) (at : ℕ) → Put out out at at []
-put-none out at = record { moved = omega arith; is = refl }
+pub put-none : (out : List ℕ) (at : ℕ) → at ≤ length out → Put out out at at []
+put-none out at room = record { moved = omega arith; within = room; is = refl }
 
-pub put-one : (out : List ℕ) (at byte : ℕ) → Put out (set out at byte) at (at + 1) (byte ∷ [])
-put-one out at byte = record { moved = refl; is = refl }
+pub put-one : (out : List ℕ) (at byte : ℕ) → at < length out → Put out (set out at byte) at (at + 1) (byte ∷ [])
+put-one out at byte room = record { moved = refl; within = omega arith; is = refl }
 
 module _ {out mid : List ℕ} {at next : ℕ} {xs : List ℕ} (p : Put out mid at next xs) where
   pub put-length : length mid ≡ length out
@@ -34,16 +34,35 @@ module _ {out mid : List ℕ} {at next : ℕ} {xs : List ℕ} (p : Put out mid a
   put-then {ys = ys} q =
       record {
         moved = rw length-append (omega (arith, p .moved, q .moved));
+        within = omega (arith, put-length, q .within);
         is = rw (sets-append xs ys out at, ← p .is, ← p .moved) (q .is);
       }
+
+-- what stands at the front of a buffer into which bytes were put there
+pub put-taken : {out end bytes : List ℕ} {last : ℕ} → Put out end 0 last bytes → take last end ≡ bytes
+put-taken {out} {bytes = bytes} {last} p =
+    let at-end : length bytes ≡ last = omega (arith, p .moved) in
+    let room : 0 + length bytes ≤ length out = omega (arith, p .moved, p .within) in
+    rw (p .is, sets-eq bytes out 0 room) (take-at bytes _ _ at-end)
+
+-- what stands after them
+pub put-rest : {out end bytes : List ℕ} {last : ℕ} → Put out end 0 last bytes → drop last end ≡ drop last out
+put-rest {out} {bytes = bytes} {last} p =
+    let at-end : length bytes ≡ last = omega (arith, p .moved) in
+    let room : 0 + length bytes ≤ length out = omega (arith, p .moved, p .within) in
+    let same : 0 + length bytes ≡ last = omega (arith, p .moved) in
+    rw (p .is, sets-eq bytes out 0 room, same) (drop-at bytes _ _ at-end)
 
 -- one byte more of those that are put
 pub put-more : {out mid : List ℕ} {at i : ℕ} (bytes : List ℕ)
     → i < length bytes
+    → at + length bytes ≤ length out
     → Put out mid at (at + i) (take i bytes)
     → Put out (set mid (at + i) (getD bytes i 0)) at (at + (i + 1)) (take (i + 1) bytes)
-put-more {mid = mid} {at = at} {i = i} bytes below p =
-    rw (← add-assoc at i 1, add-one i, take-suc bytes i 0) (rw add-one (put-then p (rw add-one at (put-one mid (at + i) (getD bytes i 0)))))
+put-more {mid = mid} {at = at} {i = i} bytes below room p =
+    let more : at + i < length mid = omega (arith, put-length p) in
+    rw (← add-assoc at i 1, add-one i, take-suc bytes i 0)
+    (rw add-one (put-then p (rw add-one at (put-one mid (at + i) (getD bytes i 0) more))))
 
 -- all bytes are put
 pub put-all : {out mid : List ℕ} {at i : ℕ} (bytes : List ℕ) → length bytes ≤ i → Put out mid at (at + i) (take i bytes) → Put out mid at (at + i) bytes
@@ -75,7 +94,15 @@ pub digits-more : (value : ℕ) → 10 ≤ value → digitsOf value ≡ digitsOf
 unfolding digitsOf digitsBy
 digits-more value p = rw (le-ltb value 10 p) (ap (λ (front : List ℕ). front ++ (digit value ∷ [])) (digits-by value (suc (value / 10)) (value / 10) (omega arith) (omega arith)))
 
--- the digits of a number of at least two
+-- a number of one digit
+module _ (value : ℕ) (few : value < 10) where
+  pub digit-length : length (digitsOf value) ≡ 1
+  digit-length = ap length (digits-one value few)
+
+  pub put-digit : (out : List ℕ) (at : ℕ) → at + length (digitsOf value) ≤ length out → Put out (set out at (digit value)) at (at + 1) (digitsOf value)
+  put-digit out at room = rw (digits-one value few) (put-one out at (digit value) (omega (arith, digit-length)))
+
+-- a number of more digits
 module _ (value : ℕ) (many : 10 ≤ value) where
   pub digits-length : length (digitsOf value) ≡ length (digitsOf (value / 10)) + 1
   digits-length = ap length (digits-more value many) ∙ length-append (digitsOf (value / 10)) (digit value ∷ [])
@@ -89,8 +116,10 @@ module _ (value : ℕ) (many : 10 ≤ value) where
 
   pub put-digits : {out mid : List ℕ} {at next : ℕ}
       → Put out mid at next (digitsOf (value / 10))
+      → at + length (digitsOf value) ≤ length out
       → Put out (set mid next (digit value)) at (next + 1) (digitsOf value)
-  put-digits {mid = mid} {next = next} p = rw (digits-more value many) (put-then p (put-one mid next (digit value)))
+  put-digits {mid = mid} {next = next} p room =
+      rw (digits-more value many) (put-then p (put-one mid next (digit value) (digits-room p room)))
 
 -- a number below a power of ten has no more digits than that
 pub digits-short : (left value : ℕ) → value < 10 ^ suc left → length (digitsOf value) ≤ suc left
@@ -139,9 +168,9 @@ unfolding recordText
 put-empty entry empty p q = rw (le-ltb entry 32768 empty) (put-then p q)
 
 -- no record's line
-pub lines-none : (out tree : List ℕ) {at : ℕ} → Put out out at at (recordLines (take 0 tree))
+pub lines-none : (out tree : List ℕ) {at : ℕ} → at ≤ length out → Put out out at at (recordLines (take 0 tree))
 unfolding recordLines
-lines-none out tree {at} = put-none out at
+lines-none out tree {at} room = put-none out at room
 
 -- one record's line more
 recordLines-append : (xs ys : List ℕ) → recordLines (xs ++ ys) ≡ recordLines xs ++ recordLines ys

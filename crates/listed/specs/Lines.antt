@@ -1,5 +1,5 @@
 -- The lines that the listing program writes, as lists of bytes.
-use Prim.Native.Nat.{ℕ, zero, suc, _+_, _-_, _/_, _%_}
+use Prim.Native.Nat.{ℕ, zero, suc, _+_, _-_, _/_, _%_, _≤_}
 use mathlib.Core.Path.{_≡_}
 use mathlib.Core.Bool.{cond}
 use mathlib.Core.List.{List, [], _∷_, _++_}
@@ -10,6 +10,7 @@ use lib.Seq.{sets}
 -- bytes put at a place of a buffer, and the place after them
 pub record Put (before after : List ℕ) (at next : ℕ) (bytes : List ℕ) : Type 0 where
   pub moved : next ≡ at + length bytes
+  pub within : next ≤ length before
   pub is : after ≡ sets before at bytes
 
 -- a decimal digit

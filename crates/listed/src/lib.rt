@@ -13,9 +13,27 @@ ghost use Rattle.listed.specs.Lines.{
   refusedLine,
   acceptedLines,
 };
-
-// A record of this and above is an empty record.
-const EMPTY: u16 = 32768;
+ghost use Rattle.listed.specs.Listing.{
+  Room,
+  RunLent,
+  Lent,
+  slotRoom,
+  treeRoom,
+  shapeOf,
+  compiledLine,
+  thirdOf,
+  readingLines,
+  Listed,
+};
+ghost use Rattle.reader.specs.Reads.{outcome, readOf};
+use book::DONE;
+use compiler::Compiled;
+use compiler::compile;
+use reader::EMPTY;
+use reader::NO_ROOM;
+use reader::Reading;
+use reader::read;
+use words::u16_at;
 
 // Puts bytes at a place, and answers the place after them.
 fn put_bytes(out: &mut [u8], at: usize, bytes: &[u8]) -> usize
@@ -71,11 +89,12 @@ fn put_node(out: &mut [u8], at: usize, entry: u16) -> usize
     requires { ⌜ at + 6 ≤ length (now out) ⌝ }
     ensures { λ r. ⌜ Put (now (out .entry)) (now (out .exit)) at r (recordText entry) × (r ≤ at + 6) ⌝ }
 {
-    if entry < EMPTY {
-        return put_number(out, at, entry as u64);
+    let node = entry as usize;
+    if node < EMPTY {
+        return put_number(out, at, node as u64);
     }
     let next = put_bytes(out, at, b"-");
-    put_number(out, next, (entry - EMPTY) as u64)
+    put_number(out, next, (node - EMPTY) as u64)
 }
 
 // Puts a record's line at a place, and answers the place after it.
@@ -111,4 +130,127 @@ fn put_accepted(out: &mut [u8], events: u64, records: u64, tree: &[u16]) -> usiz
     let second = put_spaced(out, first, records);
     let line = put_bytes(out, second, b"\n");
     put_records(out, line, tree)
+}
+
+// The longest book, and the room for events.
+const LONGEST_BOOK: usize = 3090;
+
+const EVENT_ROOM: usize = 4096;
+
+// What an input can be.
+enum Shape {
+    TooLong,
+    TooShort,
+    Whole,
+}
+
+// Whether an input is too long, too short or whole.
+fn shape_of(input: &[u8]) -> Shape
+    ensures { λ r. ⌜ r ≡ shapeOf (now (input .entry)) ⌝ }
+{
+    if input.len() < 2 {
+        return Shape::TooShort;
+    }
+    let size = u16_at(input, 0);
+    if LONGEST_BOOK < size {
+        return Shape::TooLong;
+    }
+    if input.len() < 2 + size {
+        return Shape::TooShort;
+    }
+    if 2 + size + EVENT_ROOM < input.len() {
+        return Shape::TooLong;
+    }
+    Shape::Whole
+}
+
+// Puts the line of a book that is refused, and answers its length.
+fn put_compiled(out: &mut [u8], answer: Compiled) -> usize
+    requires { ⌜ 71 ≤ length (now out) ⌝ }
+    ensures { λ r. ⌜ Put (now (out .entry)) (now (out .exit)) 0 r (compiledLine answer) ⌝ }
+{
+    put_refused(
+        out,
+        answer.number as u64,
+        answer.place as u64,
+        answer.kind as u64,
+    )
+}
+
+// The third value of a reading's refusal: the records at NO ROOM, else the kinds expected.
+fn third_of(answer: Reading) -> u64
+    ensures { λ r. ⌜ r ≡ thirdOf answer ⌝ }
+{
+    if answer.number == NO_ROOM {
+        answer.records as u64
+    } else {
+        answer.expected
+    }
+}
+
+// Puts the lines of a run that was read, and answers their length.
+fn put_reading(out: &mut [u8], events: usize, answer: Reading, tree: &[u16]) -> usize
+    requires { ⌜ Room (now out) answer (now tree) ⌝ }
+    ensures { λ r. ⌜ Put (now (out .entry)) (now (out .exit)) 0 r (readingLines events (outcome answer (now (tree .entry)))) ⌝ }
+{
+    if answer.number == DONE {
+        let records = answer.records as usize;
+        return put_accepted(out, events as u64, answer.records as u64, &tree[..records]);
+    }
+    put_refused(
+        out,
+        answer.number as u64,
+        answer.place as u64,
+        third_of(answer),
+    )
+}
+
+// Reads a run by a plan and puts its lines, and answers their length.
+fn list_run(plan: &[u8], run: &[u8], out: &mut [u8], held: &mut [u16], tree: &mut [u16]) -> usize
+    requires { ⌜ RunLent (now out) (now held) (now tree) ⌝ }
+    ensures { λ r.
+        ⌜ Put (now (out .entry)) (now (out .exit)) 0 r
+        (readingLines (length (now (run .entry))) (readOf (now (plan .entry)) (now (run .entry)) slotRoom treeRoom)) ⌝ }
+{
+    let answer = read(plan, run, held, tree);
+    put_reading(out, run.len(), answer, tree)
+}
+
+// Compiles the book of a whole input, reads its run and puts what the program writes; answers its length.
+fn list_book(
+    input: &[u8],
+    out: &mut [u8],
+    plan: &mut [u8],
+    held: &mut [u16],
+    tree: &mut [u16],
+) -> usize
+    requires { ⌜ shapeOf (now input) ≡ Shape.Whole ⌝ }
+    requires { ⌜ Lent (now out) (now plan) (now held) (now tree) ⌝ }
+    ensures { λ r. ⌜ Listed (now (input .entry)) (now (out .entry)) (now (out .exit)) r ⌝ }
+{
+    let end = 2 + u16_at(input, 0);
+    let answer = compile(&input[2..end], plan);
+    if answer.number != DONE {
+        return put_compiled(out, answer);
+    }
+    let used = answer.size as usize;
+    list_run(&plan[..used], &input[end..], out, held, tree)
+}
+
+// Puts what the program writes for an input, and answers its length.
+pub fn list(
+    input: &[u8],
+    out: &mut [u8],
+    plan: &mut [u8],
+    held: &mut [u16],
+    tree: &mut [u16],
+) -> usize
+    requires { ⌜ Lent (now out) (now plan) (now held) (now tree) ⌝ }
+    ensures { λ r. ⌜ Listed (now (input .entry)) (now (out .entry)) (now (out .exit)) r ⌝ }
+{
+    match shape_of(input) {
+        Shape::TooLong => put_bytes(out, 0, b"input too long\n"),
+        Shape::TooShort => put_bytes(out, 0, b"input too short\n"),
+        Shape::Whole => list_book(input, out, plan, held, tree),
+    }
 }

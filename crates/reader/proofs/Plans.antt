@@ -80,14 +80,14 @@ module _ {bytes : List ℕ} {count kinds : ℕ} (runs : Runnable bytes count kin
 
   module _ (slots n : ℕ) where
     pub left-is : (k : ℕ) → n < count → k < kinds → 2 ≤ cellAt bytes count kinds n k
-      → leftAt bytes planNodesAt n ≡ onSlots bytes count kinds slots .left n
+        → leftAt bytes planNodesAt n ≡ onSlots bytes count kinds slots .left n
     unfolding planFrom nodeAt
     left-is k below kind high =
         sym (ap leftOf (nodes-below bytes planNodesAt count n below)
         ∙ cell-left (typeAt bytes planNodesAt n) (leftAt bytes planNodesAt n) (rightAt bytes planNodesAt n) _ (rw (nodes-below bytes planNodesAt count n below) at (runs .legal n k below kind)) high)
 
     pub right-is : (k : ℕ) → n < count → k < kinds → 3 ≤ cellAt bytes count kinds n k
-      → rightAt bytes planNodesAt n ≡ onSlots bytes count kinds slots .right n
+        → rightAt bytes planNodesAt n ≡ onSlots bytes count kinds slots .right n
     unfolding planFrom nodeAt
     right-is k below kind high =
         sym (ap rightOf (nodes-below bytes planNodesAt count n below)
@@ -100,6 +100,6 @@ module _ {bytes : List ℕ} {count kinds : ℕ} (runs : Runnable bytes count kin
       record { frees = λ n. refl; left-below = λ n. sides n (decLt n count) .0; right-below = λ n. sides n (decLt n count) .1 }
     where
       sides : (n : ℕ) → Dec (n < count)
-        → (leftOf (nodes bytes planNodesAt count n) < count) × (rightOf (nodes bytes planNodesAt count n) < count)
+          → (leftOf (nodes bytes planNodesAt count n) < count) × (rightOf (nodes bytes planNodesAt count n) < count)
       sides n (yes below) = proper-sides below (runs .proper n below)
       sides n (no above) = rw (nodes-beyond bytes planNodesAt count n (omega arith)) (runs .some-node, runs .some-node)

@@ -31,7 +31,7 @@ within-noted r runaway-within = runaway-within
 
 -- a visit, by how the walk goes on with so many visits left
 visit-within : (left : ℕ) (go : ℕ → List ℕ → Step) → ((n : ℕ) (held : List ℕ) → Within (length held + 2 * left) (go n held))
-  → (c : ℕ) (free : ℕ → Bool) (l r : ℕ) (held : List ℕ) → Within (suc (length held + 2 * left)) (visit c go free l r held)
+    → (c : ℕ) (free : ℕ → Bool) (l r : ℕ) (held : List ℕ) → Within (suc (length held + 2 * left)) (visit c go free l r held)
 unfolding visit
 visit-within left go goes zero free l r held = refused-within
 visit-within left go goes (suc zero) free l r held = taken-within held [] (omega arith)
@@ -92,7 +92,7 @@ module _ (p : Plan) where
   finish-few at before (n ∷ held) = by-null (p .null n) (finish-few at before held)
     where
       by-null : (null : Bool) → Few (length held) (finish p at before held)
-        → Few (suc (length held)) (pick null (logged (emptied n ∷ []) (finish p at before held)) (end-at at before))
+          → Few (suc (length held)) (pick null (logged (emptied n ∷ []) (finish p at before held)) (end-at at before))
       by-null true rest = few-logged _ (emptied n ∷ []) (omega arith) rest
       by-null false rest = end-few
 
@@ -109,15 +109,16 @@ module _ (p : Plan) where
   reads-few at held (k ∷ run) = by-kind (ltb k (p .kinds)) held (λ h. reads-few (suc at) h run)
     where
       by-step : {b : ℕ} {step : Step} (before : List ℕ) → b ≤ length before + (2 * p .count - 2) + 1 → Within b step
-        → ((h : List ℕ) → Few (most (length h) run) (reads p (suc at) h run))
-        → Few (most (length before) (k ∷ run)) (onward step (λ h. reads p (suc at) h run) at before)
+          → ((h : List ℕ) → Few (most (length h) run) (reads p (suc at) h run))
+          → Few (most (length before) (k ∷ run)) (onward step (λ h. reads p (suc at) h run) at before)
       by-step before le (taken-within h records few) rest =
           few-logged _ records (omega (arith, mul-suc (2 * p .count - 2) (length run))) (rest h)
       by-step before le refused-within rest = unexpected-few
       by-step before le deep-within rest = deep-few
       by-step before le runaway-within rest = runaway-few
+
       by-kind : (known : Bool) (parts : List ℕ) → ((h : List ℕ) → Few (most (length h) run) (reads p (suc at) h run))
-        → Few (most (length parts) (k ∷ run)) (pick known (onward (event p k parts) (λ h. reads p (suc at) h run) at parts) (unknown-at at parts))
+          → Few (most (length parts) (k ∷ run)) (pick known (onward (event p k parts) (λ h. reads p (suc at) h run) at parts) (unknown-at at parts))
       by-kind true [] rest = unexpected-few
       by-kind true (n ∷ parts) rest = by-step (n ∷ parts) (omega arith) (event-within k n parts) rest
       by-kind false parts rest = unknown-few

@@ -70,13 +70,13 @@ module _ (bytes : List ℕ) (nodes kinds slots other n : ℕ) where
 
 -- what the last part expects is what the held list expects
 pub expected-is : (bytes : List ℕ) (nodes kinds slots : ℕ) (held : List ℕ) (count : ℕ)
-  → expectedOf (onSlots bytes nodes kinds 0) count (lastOf held count) ≡ expected (onSlots bytes nodes kinds slots) (stack held count)
+    → expectedOf (onSlots bytes nodes kinds 0) count (lastOf held count) ≡ expected (onSlots bytes nodes kinds slots) (stack held count)
 unfolding expectedOf expected stack lastOf planFrom
 expected-is bytes nodes kinds slots held zero = refl
 expected-is bytes nodes kinds slots held (suc count) = row-slots bytes nodes kinds 0 slots (getD held count 0) kinds
 
 -- a refusal by the last part is one by the held list
 pub refusal-is : (bytes : List ℕ) (nodes kinds slots : ℕ) (held : List ℕ) (number at count last : ℕ) {r : Reading}
-  → r ≡ refusal number at (expectedOf (onSlots bytes nodes kinds 0) count last) → last ≡ lastOf held count
-  → r ≡ refusal number at (expected (onSlots bytes nodes kinds slots) (stack held count))
+    → r ≡ refusal number at (expectedOf (onSlots bytes nodes kinds 0) count last) → last ≡ lastOf held count
+    → r ≡ refusal number at (expected (onSlots bytes nodes kinds slots) (stack held count))
 refusal-is bytes nodes kinds slots held number at count last is last-is = is ∙ rw (last-is, expected-is bytes nodes kinds slots held count) refl

@@ -19,7 +19,7 @@ use Rattle.reader.proofs.Records.{Within, taken-within, refused-within,
 
 -- records stored after records are stored together
 pub sets-append : (tree : List ℕ) (written : ℕ) (records more : List ℕ)
-  → sets (sets tree written records) (written + length records) more ≡ sets tree written (records ++ more)
+    → sets (sets tree written records) (written + length records) more ≡ sets tree written (records ++ more)
 sets-append tree written [] more = rw (add-zero written)
 sets-append tree written (r ∷ records) more =
     rw (shift) (sets-append (set tree written r) (suc written) records more)
@@ -36,7 +36,7 @@ pub record Safe (nodes slots most : ℕ) (s : After) : Type 0 where
 module _ (p : Plan) where
   pub data Ends (tree : List ℕ) (written final : ℕ) : Answer → Ended → Type 0 where
     as-accepted : (records : List ℕ) {e : Ended} → e .reading ≡ answered DONE final (written + length records) 0 → e .tree ≡ sets tree written records
-      → Ends tree written final (accepted records) e
+        → Ends tree written final (accepted records) e
     as-deep-at : {i : ℕ} {e : Ended} → e .reading ≡ answered DEEP i 0 0 → Ends tree written final (deep-at i) e
     as-unknown-at : {i : ℕ} {before : List ℕ} {e : Ended} → e .reading ≡ answered UNKNOWN i 0 (expected p before) → Ends tree written final (unknown-at i before) e
     as-unexpected-at : {i : ℕ} {before : List ℕ} {e : Ended} → e .reading ≡ answered UNEXPECTED i 0 (expected p before) → Ends tree written final (unexpected-at i before) e
@@ -45,7 +45,7 @@ module _ (p : Plan) where
 
   -- records stored before those of an accepted run
   ends-logged : {tree : List ℕ} {written final : ℕ} {answer : Answer} {e : Ended} (records : List ℕ)
-    → Ends (sets tree written records) (written + length records) final answer e → Ends tree written final (logged records answer) e
+      → Ends (sets tree written records) (written + length records) final answer e → Ends tree written final (logged records answer) e
   unfolding logged
   ends-logged {tree} {written} {final} records (as-accepted more reads stored) =
       as-accepted (records ++ more) (reads ∙ ap (λ (n : ℕ). answered DONE final n 0) counted) (stored ∙ sets-append tree written records more)
@@ -61,10 +61,10 @@ module _ (p : Plan) where
   module _ (slots : ℕ) (b : Bounded p slots) where
     -- an event and then the rest of the run
     on-same : {tree : List ℕ} {written final : ℕ} {step : Step} {s : After} (at : ℕ) (before : List ℕ)
-      (rest : List ℕ → Answer) (go : ℕ → ℕ → List ℕ → List ℕ → Ended)
-      → ((count written′ : ℕ) (held tree′ : List ℕ) → Held (p .count) slots held count → Ends tree′ written′ final (rest (stack held count)) (go count written′ held tree′))
-      → Stepped (p .count) slots tree written step s
-      → Ends tree written final (onward step rest at before) (onOf s go at (expected p before))
+        (rest : List ℕ → Answer) (go : ℕ → ℕ → List ℕ → List ℕ → Ended)
+        → ((count written′ : ℕ) (held tree′ : List ℕ) → Held (p .count) slots held count → Ends tree′ written′ final (rest (stack held count)) (go count written′ held tree′))
+        → Stepped (p .count) slots tree written step s
+        → Ends tree written final (onward step rest at before) (onOf s go at (expected p before))
     unfolding onward onOf
     on-same {tree} {written} {final} {s = s} at before rest go same (as-taken {held = held} {records = records} t) =
         ends-logged records
@@ -75,7 +75,7 @@ module _ (p : Plan) where
 
     -- the end of a run
     finish-same : (at count written : ℕ) (before held tree : List ℕ) → Held (p .count) slots held count
-      → Ends tree written at (finish p at before (stack held count))
+        → Ends tree written at (finish p at before (stack held count))
         (onOf (finishOf p count written held tree) (λ c w h t. ended (answered DONE at w 0) h t) at (expected p before))
     unfolding finish finishOf stack onOf
     finish-same at zero written before held tree h = as-accepted [] (ap (λ (n : ℕ). answered DONE at n 0) (sym (add-zero written))) refl
@@ -84,17 +84,18 @@ module _ (p : Plan) where
       where
         n : ℕ
         n = getD held count 0
+
         by-null : (null : Bool)
-          → Ends (set tree written (emptied n)) (suc written) at (finish p at before (stack held count))
+            → Ends (set tree written (emptied n)) (suc written) at (finish p at before (stack held count))
             (onOf (finishOf p count (suc written) held (set tree written (emptied n))) (λ c w h t. ended (answered DONE at w 0) h t) at (expected p before))
-          → Ends tree written at (pick null (logged (emptied n ∷ []) (finish p at before (stack held count))) (end-at at before))
+            → Ends tree written at (pick null (logged (emptied n ∷ []) (finish p at before (stack held count))) (end-at at before))
             (onOf (cond null (finishOf p count (suc written) held (set tree written (emptied n))) (stands END count written held tree)) (λ c w h t. ended (answered DONE at w 0) h t) at (expected p before))
         by-null true rest = ends-logged (emptied n ∷ []) (rw (add-one written) rest)
         by-null false rest = as-end-at refl
 
     -- a run from a place on
     pub reads-same : (at : ℕ) (run : List ℕ) (count written : ℕ) (held tree : List ℕ) → Held (p .count) slots held count
-      → Ends tree written (at + length run) (reads p at (stack held count) run) (readsOf p at run count written held tree)
+        → Ends tree written (at + length run) (reads p at (stack held count) run) (readsOf p at run count written held tree)
     unfolding reads readsOf closeOf eventOf onOf
     reads-same at [] count written held tree h = rw (add-zero at) (finish-same at count written (stack held count) held tree h)
     reads-same at (k ∷ run) count written held tree h =
@@ -102,9 +103,10 @@ module _ (p : Plan) where
       where
         next : at + suc (length run) ≡ suc at + length run
         next = omega arith
+
         by-kind : (known : Bool)
-          → ((c w : ℕ) (h′ t : List ℕ) → Held (p .count) slots h′ c → Ends t w (at + suc (length run)) (reads p (suc at) (stack h′ c) run) (readsOf p (suc at) run c w h′ t))
-          → Ends tree written (at + suc (length run))
+            → ((c w : ℕ) (h′ t : List ℕ) → Held (p .count) slots h′ c → Ends t w (at + suc (length run)) (reads p (suc at) (stack h′ c) run) (readsOf p (suc at) run c w h′ t))
+            → Ends tree written (at + suc (length run))
             (pick known (onward (event p k (stack held count)) (λ l. reads p (suc at) l run) at (stack held count)) (unknown-at at (stack held count)))
             (onOf (cond known (takeOf p k count written held tree) (stands UNKNOWN count written held tree)) (λ c w h′ t. readsOf p (suc at) run c w h′ t) at (expected p (stack held count)))
         by-kind true rest =
@@ -119,7 +121,7 @@ module _ (p : Plan) where
       stack-within (suc c) = within-more _ (omega (arith, stack-length held c)) (event-within p k (getD held c 0) (stack held c))
 
       counted : {step : Step} {s : After} {most : ℕ} → Stepped (p .count) slots tree written step s → Within most step → s .spot .number ≡ DONE
-        → Safe (p .count) slots (written + most) s
+          → Safe (p .count) slots (written + most) s
       counted {s = s} (as-taken t) (taken-within l records few) is =
           record { parts = t .safe; records = omega (arith, t .length-is, ap length (t .parts), stack-length (s .held) (s .spot .count)) }
       counted (as-refused e) refused-within is = absurd (omega arith)
@@ -127,12 +129,12 @@ module _ (p : Plan) where
       counted (as-runaway e) runaway-within is = absurd (omega arith)
 
       pub event-safe : eventOf p k count written held tree .spot .number ≡ DONE
-        → Safe (p .count) slots (written + (count + 2 * p .count - 1)) (eventOf p k count written held tree)
+          → Safe (p .count) slots (written + (count + 2 * p .count - 1)) (eventOf p k count written held tree)
       unfolding eventOf
       event-safe = by-kind (ltb k (p .kinds))
         where
           by-kind : (known : Bool) → cond known (takeOf p k count written held tree) (stands UNKNOWN count written held tree) .spot .number ≡ DONE
-            → Safe (p .count) slots (written + (count + 2 * p .count - 1)) (cond known (takeOf p k count written held tree) (stands UNKNOWN count written held tree))
+              → Safe (p .count) slots (written + (count + 2 * p .count - 1)) (cond known (takeOf p k count written held tree) (stands UNKNOWN count written held tree))
           by-kind true is = counted (take-same p slots b k count written held tree h) (stack-within count) is
           by-kind false is = absurd (omega arith)
 

@@ -33,7 +33,7 @@ module _ (answer : Reading) (tree : List ℕ) where
   settled-full is full = rw (eq-eqb (answer .number) DONE is, lt-leb (answer .records) (length tree) full)
 
   pub settled-fits : answer .number ≡ DONE → answer .records ≤ length tree
-    → settledOf answer tree ≡ outcome answer (take (answer .records) tree ++ zeros (length tree - answer .records))
+      → settledOf answer tree ≡ outcome answer (take (answer .records) tree ++ zeros (length tree - answer .records))
   unfolding settledOf
   settled-fits is fits = rw (eq-eqb (answer .number) DONE is, le-leb (answer .records) (length tree) fits)
 
@@ -65,22 +65,22 @@ front tree records fits =
 
 -- what is left of a tree's room, cleared
 pub rest-cleared : (tree rest : List ℕ) (n : ℕ) → n ≤ length tree → rest ≡ zeros (length (midOf n (length tree - n) tree))
-  → putMid n (length tree - n) tree rest ≡ take n tree ++ zeros (length tree - n)
+    → putMid n (length tree - n) tree rest ≡ take n tree ++ zeros (length tree - n)
 rest-cleared tree rest n within is =
     ap (λ (l : List ℕ). take n tree ++ l)
     (ap₂ _++_ (is ∙ ap zeros (mid-len n (length tree) tree (omega arith))) (post-is n (length tree) tree within ∙ drop-length tree) ∙ append-nil (zeros (length tree - n)))
 
 module _ (p : Plan) where
   pub settled-same : {tree : List ℕ} {size : ℕ} {answer : Answer} {e : Ended} → length (e .tree) ≡ length tree → Ends p tree 0 size answer e
-    → settledOf (e .reading) (e .tree) ≡ outcomeOf p size (length tree) answer
+      → settledOf (e .reading) (e .tree) ≡ outcomeOf p size (length tree) answer
   unfolding settledOf outcomeOf acceptedOf
   settled-same {tree} {size} room (as-accepted records reads stored) =
       rw (reads, zero-add (length records), stored, length-sets tree 0 records) (by-room (leb (length records) (length tree)) refl)
     where
       by-room : (fits : Bool) → leb (length records) (length tree) ≡ fits
-        → cond fits (outcome (answered DONE size (length records) 0) (take (length records) (sets tree 0 records) ++ zeros (length tree - length records)))
+          → cond fits (outcome (answered DONE size (length records) 0) (take (length records) (sets tree 0 records) ++ zeros (length tree - length records)))
           (bare (length tree) (answered NO-ROOM 0 (length records) 0))
-        ≡ cond fits (outcome (answered DONE size (length records) 0) (records ++ zeros (length tree - length records)))
+          ≡ cond fits (outcome (answered DONE size (length records) 0) (records ++ zeros (length tree - length records)))
           (bare (length tree) (answered NO-ROOM 0 (length records) 0))
       by-room true e = rw (front tree records (leb-true _ _ e)) refl
       by-room false e = refl
@@ -98,12 +98,13 @@ module _ (plan run held tree : List ℕ) (good : planJudged plan .number ≡ DON
     where
       first : getD (set held 0 (planStart plan)) 0 0 < planCount plan
       first = rw (getD-set-same held 0 (planStart plan) 0 some) (done plan good .formed-is .start-below)
+
       only : (i : ℕ) → i ≡ 0 → getD (set held 0 (planStart plan)) i 0 < planCount plan
       only i is = rw is first
 
   -- the run's end, settled, is the outcome of the run
   pub run-same : (e : Ended) → e ≡ readsOf (planOf plan (λ n. ltb n (length held))) 0 run 1 0 (set held 0 (planStart plan)) tree → length (e .tree) ≡ length tree
-    → settledOf (e .reading) (e .tree) ≡ runOf plan run (length held) (length tree)
+      → settledOf (e .reading) (e .tree) ≡ runOf plan run (length held) (length tree)
   unfolding runOf reading stack planFrom
   run-same e is room = settled-same (planOf plan (λ n. ltb n (length held))) room ends
     where

@@ -61,7 +61,7 @@ module _ (p : Plan) (slots : ℕ) (b : Bounded p slots) where
 
   module _ (go : ℕ → List ℕ → Step) (goes : Go) (same : Same go goes) where
     visit-same : (c l r count written : ℕ) (held tree : List ℕ) → r < p .count → Held (p .count) slots held count
-      → Stepped (p .count) slots tree written (visit c go (p .free) l r (stack held count)) (visitOf c goes l r count written held tree)
+        → Stepped (p .count) slots tree written (visit c go (p .free) l r (stack held count)) (visitOf c goes l r count written held tree)
     unfolding visit visitOf
     visit-same zero l r count written held tree good h = as-refused refl
     visit-same (suc zero) l r count written held tree good h =
@@ -71,7 +71,7 @@ module _ (p : Plan) (slots : ℕ) (b : Bounded p slots) where
         rw (b .frees (length (stack held count)), stack-length held count, h .long) (by-slot (ltb count slots) refl)
       where
         by-slot : (free : Bool) → ltb count slots ≡ free
-          → Stepped (p .count) slots tree written (pick free (go l (r ∷ stack held count)) deep)
+            → Stepped (p .count) slots tree written (pick free (go l (r ∷ stack held count)) deep)
             (cond free (goes l (suc count) written (set held count r) tree) (stands DEEP count written held tree))
         by-slot true e =
             let inside : count < slots = ltb-true count slots e in
@@ -92,9 +92,9 @@ module _ (p : Plan) (slots : ℕ) (b : Bounded p slots) where
         (visit-same (walk p k left) (walkOf p k left) (walk-same left) (p .cell n k) (p .left n) (p .right n) count (suc written) held (set tree written n) (b .right-below n) h)
 
     off-same : (c : ℕ) (null : Bool) {tree : List ℕ} {written : ℕ} {walked passed : Step} {walks passes refuses : After}
-      → Stepped (p .count) slots tree written walked walks → Stepped (p .count) slots tree written passed passes
-      → Stepped (p .count) slots tree written refused refuses
-      → Stepped (p .count) slots tree written (takeOff c null walked passed) (offOf c null walks passes refuses)
+        → Stepped (p .count) slots tree written walked walks → Stepped (p .count) slots tree written passed passes
+        → Stepped (p .count) slots tree written refused refuses
+        → Stepped (p .count) slots tree written (takeOff c null walked passed) (offOf c null walks passes refuses)
     unfolding takeOff offOf
     off-same zero true walked passed refuses = passed
     off-same zero false walked passed refuses = refuses
@@ -102,7 +102,7 @@ module _ (p : Plan) (slots : ℕ) (b : Bounded p slots) where
 
     -- an event of a known kind
     pub take-same : (count written : ℕ) (held tree : List ℕ) → Held (p .count) slots held count
-      → Stepped (p .count) slots tree written (event p k (stack held count)) (takeOf p k count written held tree)
+        → Stepped (p .count) slots tree written (event p k (stack held count)) (takeOf p k count written held tree)
     unfolding event takeOf stack
     take-same zero written held tree h = as-refused refl
     take-same (suc count) written held tree h =

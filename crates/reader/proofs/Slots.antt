@@ -35,6 +35,7 @@ module _ {nodes slots : ℕ} {held : List ℕ} {count : ℕ} (h : Held nodes slo
     where
       inside : count < length held
       inside = omega (arith, h .long)
+
       at-slot : (i : ℕ) → i < suc count → Dec (i ≡ count) → getD (set held count value) i 0 < nodes
       at-slot i under (yes e) = rw (e, getD-set-same held count value 0 inside) good
       at-slot i under (no ne) = rw (getD-set-other held count i value 0 ne) (h .below i (omega (arith, ne)))

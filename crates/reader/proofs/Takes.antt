@@ -47,7 +47,7 @@ module _ {machine : ℕ → ℕ → List ℕ → List ℕ → After} {goal : Aft
 
     -- a part passed
     pub passed : (tree′ : List ℕ) → tree′ ≡ set tree records (emptied (lastAt held parts)) → machine (parts - 1) (records + 1) held tree′ ≡ goal
-      → Taking machine goal nodes slots room bound (parts - 1) (records + 1) held tree′
+        → Taking machine goal nodes slots room bound (parts - 1) (records + 1) held tree′
     passed tree′ noted rest =
         record { rest = rest; safe = fewer; tree-long = ap length noted ∙ simp length-set (w .tree-long); small = omega (arith, w .small) }
 
@@ -59,8 +59,8 @@ module _ (p : Plan) (k : ℕ) {goal : After} {nodes slots room bound parts recor
 
   module _ (some : 0 < parts) where
     taking : offOf (p .cell (lastAt held parts) k) (p .null (lastAt held parts)) (walkOf p k (p .count) (lastAt held parts) (parts - 1) records held tree)
-      (takeOf p k (parts - 1) (records + 1) held (set tree records (emptied (lastAt held parts))))
-      (stands UNEXPECTED (parts - 1) records held tree) ≡ goal
+        (takeOf p k (parts - 1) (records + 1) held (set tree records (emptied (lastAt held parts))))
+        (stands UNEXPECTED (parts - 1) records held tree) ≡ goal
     unfolding takeOf
     taking = let one : parts ≡ suc (parts - 1) = omega arith in rw (add-one records) (rw one at (w .rest))
 
@@ -72,7 +72,7 @@ module _ (p : Plan) (k : ℕ) {goal : After} {nodes slots room bound parts recor
     take-refuses is null = rw (is, null) at taking
 
     pub take-passes : p .cell (lastAt held parts) k ≡ 0 → p .null (lastAt held parts) ≡ true → (tree′ : List ℕ) → tree′ ≡ set tree records (emptied (lastAt held parts))
-      → Taking (takeOf p k) goal nodes slots room bound (parts - 1) (records + 1) held tree′
+        → Taking (takeOf p k) goal nodes slots room bound (parts - 1) (records + 1) held tree′
     unfolding offOf
     take-passes is null tree′ noted = passed w some tree′ noted (rw noted (rw (is, null) at taking))
 
@@ -88,7 +88,7 @@ module _ (p : Plan) {goal : After} {nodes slots room bound parts records : ℕ} 
     finish-refuses null = let one : parts ≡ suc (parts - 1) = omega arith in rw null at (rw one at (w .rest))
 
     pub finish-passes : p .null (lastAt held parts) ≡ true → (tree′ : List ℕ) → tree′ ≡ set tree records (emptied (lastAt held parts))
-      → Taking (finishOf p) goal nodes slots room bound (parts - 1) (records + 1) held tree′
+        → Taking (finishOf p) goal nodes slots room bound (parts - 1) (records + 1) held tree′
     unfolding finishOf
     finish-passes null tree′ noted =
         let one : parts ≡ suc (parts - 1) = omega arith in

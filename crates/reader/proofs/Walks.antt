@@ -91,7 +91,7 @@ module _ (p : Plan) (k : ℕ) (goal : After) (slots room bound : ℕ) where
             }
 
         pub walk-holds : (r : ℕ) → p .cell n k ≡ 3 → count < length held → m ≡ p .left n → r ≡ p .right n
-          → Walking (left - 1) m (count + 1) (written + 1) (set held count r) tree′
+            → Walking (left - 1) m (count + 1) (written + 1) (set held count r) tree′
         unfolding visitOf
         walk-holds r is free goes holds =
             record {
@@ -104,7 +104,7 @@ module _ (p : Plan) (k : ℕ) (goal : After) (slots room bound : ℕ) where
             }
 
         pub walk-skips : (l : ℕ) (tree″ : List ℕ) → p .cell n k ≡ 4 → l ≡ p .left n → m ≡ p .right n → tree″ ≡ set tree′ (written + 1) (emptied l)
-          → Walking (left - 1) m count (written + 1 + 1) held tree″
+            → Walking (left - 1) m count (written + 1 + 1) held tree″
         unfolding visitOf
         walk-skips l tree″ is skips goes noted′ =
             record {

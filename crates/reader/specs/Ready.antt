@@ -25,8 +25,8 @@ pub record Runnable (bytes : List ℕ) (count kinds : ℕ) : Type 0 where
   pub proper : (n : ℕ) → n < count → Proper kinds count n (nodes bytes planNodesAt count n)
   pub legal : (n k : ℕ) → n < count → k < kinds
       → (cellAt bytes count kinds n k ≡ 0)
-        ⊎ ((cellAt bytes count kinds n k ≡ oneCell (nodes bytes planNodesAt count n))
-        ⊎ (cellAt bytes count kinds n k ≡ otherCell (nodes bytes planNodesAt count n)))
+      ⊎ ((cellAt bytes count kinds n k ≡ oneCell (nodes bytes planNodesAt count n))
+      ⊎ (cellAt bytes count kinds n k ≡ otherCell (nodes bytes planNodesAt count n)))
 
 -- a step of a runnable plan: the parts held are nodes, and the counts are small
 pub record Ready (bytes : List ℕ) (nodes kinds count written : ℕ) (held : List ℕ) : Type 0 where

@@ -10,20 +10,26 @@ ghost use Rattle.reader.specs.Ready.{onSlots, Runnable, Ready};
 ghost use Rattle.reader.specs.Reads.{Left, Reads, outcome, bare, runOf, settledOf};
 use book::DONE;
 use kinds::single;
-use plan::judge;
 use plan::NODES_AT;
 use plan::SETTINGS_AT;
+use plan::judge;
 use words::clear_records;
 use words::u16_at;
 use words::wide;
 
 // The answers' numbers.
 pub const LONG: u32 = 10;
+
 pub const DEEP: u32 = 11;
+
 pub const UNKNOWN: u32 = 12;
+
 pub const UNEXPECTED: u32 = 13;
+
 pub const END: u32 = 14;
+
 pub const RUNAWAY: u32 = 15;
+
 pub const NO_ROOM: u32 = 16;
 
 // What is added to a node's number in an empty record.
@@ -90,12 +96,8 @@ fn walk(
     held: &mut [u16],
     tree: &mut [u16],
 ) -> Spot
-    requires {
-        ⌜ (Ready (now plan) nodes kinds count written (now held)) × (kind < kinds) × (from < nodes) ⌝
-    }
-    ensures {
-        λ r. ⌜ after r (now (held .exit)) (now (tree .exit)) ≡ walkOf (onSlots (now (plan .entry)) nodes kinds (length (now (held .entry)))) kind nodes from count written (now (held .entry)) (now (tree .entry)) ⌝
-    }
+    requires { ⌜ (Ready (now plan) nodes kinds count written (now held)) × (kind < kinds) × (from < nodes) ⌝ }
+    ensures { λ r. ⌜ after r (now (held .exit)) (now (tree .exit)) ≡ walkOf (onSlots (now (plan .entry)) nodes kinds (length (now (held .entry)))) kind nodes from count written (now (held .entry)) (now (tree .entry)) ⌝ }
 {
     let mut left = nodes;
     let mut node = from;
@@ -164,9 +166,7 @@ pub fn event(
     tree: &mut [u16],
 ) -> Spot
     requires { ⌜ Ready (now plan) nodes kinds count written (now held) ⌝ }
-    ensures {
-        λ r. ⌜ after r (now (held .exit)) (now (tree .exit)) ≡ eventOf (onSlots (now (plan .entry)) nodes kinds (length (now (held .entry)))) kind count written (now (held .entry)) (now (tree .entry)) ⌝
-    }
+    ensures { λ r. ⌜ after r (now (held .exit)) (now (tree .exit)) ≡ eventOf (onSlots (now (plan .entry)) nodes kinds (length (now (held .entry)))) kind count written (now (held .entry)) (now (tree .entry)) ⌝ }
 {
     if kinds <= kind {
         return Spot {
@@ -211,9 +211,7 @@ fn finish(
     tree: &mut [u16],
 ) -> Spot
     requires { ⌜ Ready (now plan) nodes kinds count written (now held) ⌝ }
-    ensures {
-        λ r. ⌜ after r (now (held .entry)) (now (tree .exit)) ≡ finishOf (onSlots (now (plan .entry)) nodes kinds (length (now (held .entry)))) count written (now (held .entry)) (now (tree .entry)) ⌝
-    }
+    ensures { λ r. ⌜ after r (now (held .entry)) (now (tree .exit)) ≡ finishOf (onSlots (now (plan .entry)) nodes kinds (length (now (held .entry)))) count written (now (held .entry)) (now (tree .entry)) ⌝ }
 {
     let mut parts = count;
     let mut records = written;
@@ -265,11 +263,16 @@ fn last_part(held: &[u16], count: usize) -> usize
 }
 
 // The kinds that a refusal tells, where so many parts were held, this one last.
-fn expected_at(plan: &[u8], nodes: usize, kinds: usize, number: u32, count: usize, last: usize) -> u64
+fn expected_at(
+    plan: &[u8],
+    nodes: usize,
+    kinds: usize,
+    number: u32,
+    count: usize,
+    last: usize,
+) -> u64
     requires { ⌜ (Runnable (now plan) nodes kinds) × (last < nodes) ⌝ }
-    ensures {
-        λ r. ⌜ r ≡ told number (expectedOf (onSlots (now (plan .entry)) nodes kinds 0) count last) ⌝
-    }
+    ensures { λ r. ⌜ r ≡ told number (expectedOf (onSlots (now (plan .entry)) nodes kinds 0) count last) ⌝ }
 {
     if number == DEEP {
         return 0;
@@ -294,9 +297,7 @@ fn refuse(
     last: usize,
 ) -> Reading
     requires { ⌜ (Runnable (now plan) nodes kinds) × (last < nodes) × (at < 65536) ⌝ }
-    ensures {
-        λ r. ⌜ r ≡ refusal number at (expectedOf (onSlots (now (plan .entry)) nodes kinds 0) count last) ⌝
-    }
+    ensures { λ r. ⌜ r ≡ refusal number at (expectedOf (onSlots (now (plan .entry)) nodes kinds 0) count last) ⌝ }
 {
     Reading {
         number: number,
@@ -317,12 +318,8 @@ fn close(
     held: &[u16],
     tree: &mut [u16],
 ) -> Reading
-    requires {
-        ⌜ (Ready (now plan) nodes kinds count written (now held)) × (at < 65536) ⌝
-    }
-    ensures {
-        λ r. ⌜ ended r (now (held .entry)) (now (tree .exit)) ≡ closeOf (onSlots (now (plan .entry)) nodes kinds (length (now (held .entry)))) at count written (now (held .entry)) (now (tree .entry)) ⌝
-    }
+    requires { ⌜ (Ready (now plan) nodes kinds count written (now held)) × (at < 65536) ⌝ }
+    ensures { λ r. ⌜ ended r (now (held .entry)) (now (tree .exit)) ≡ closeOf (onSlots (now (plan .entry)) nodes kinds (length (now (held .entry)))) at count written (now (held .entry)) (now (tree .entry)) ⌝ }
 {
     let last = last_part(held, count);
     let spot = finish(plan, nodes, kinds, count, written, held, tree);
@@ -346,19 +343,24 @@ fn events(
     held: &mut [u16],
     tree: &mut [u16],
 ) -> Reading
-    requires {
-        ⌜ (Ready (now plan) nodes kinds 1 0 (now held)) × (length (now run) ≤ 65535) ⌝
-    }
-    ensures {
-        λ r. ⌜ ended r (now (held .exit)) (now (tree .exit)) ≡ readsOf (onSlots (now (plan .entry)) nodes kinds (length (now (held .entry)))) 0 (now (run .entry)) 1 0 (now (held .entry)) (now (tree .entry)) ⌝
-    }
+    requires { ⌜ (Ready (now plan) nodes kinds 1 0 (now held)) × (length (now run) ≤ 65535) ⌝ }
+    ensures { λ r. ⌜ ended r (now (held .exit)) (now (tree .exit)) ≡ readsOf (onSlots (now (plan .entry)) nodes kinds (length (now (held .entry)))) 0 (now (run .entry)) 1 0 (now (held .entry)) (now (tree .entry)) ⌝ }
 {
     let mut at = 0;
     let mut count = 1;
     let mut written = 0;
     while at < run.len() {
         let last = last_part(held, count);
-        let spot = event(plan, nodes, kinds, wide(run[at]), count, written, held, tree);
+        let spot = event(
+            plan,
+            nodes,
+            kinds,
+            wide(run[at]),
+            count,
+            written,
+            held,
+            tree,
+        );
         if spot.number != DONE {
             return refuse(plan, nodes, kinds, spot.number, at, count, last);
         }
@@ -371,9 +373,7 @@ fn events(
 
 // A refusal before any event: both buffers are cleared.
 fn refuse_all(number: u32, place: u32, held: &mut [u16], tree: &mut [u16]) -> Reading
-    ensures {
-        λ r. ⌜ Left (now (held .entry)) (bare (length (now (tree .entry))) (answered number place 0 0)) r (now (held .exit)) (now (tree .exit)) ⌝
-    }
+    ensures { λ r. ⌜ Left (now (held .entry)) (bare (length (now (tree .entry))) (answered number place 0 0)) r (now (held .exit)) (now (tree .exit)) ⌝ }
 {
     clear_records(held);
     clear_records(tree);
@@ -409,12 +409,8 @@ fn settle(answer: Reading, tree: &mut [u16]) -> Reading
 
 // The run by a plan that is judged done, with a slot at least.
 fn run_plan(plan: &[u8], run: &[u8], held: &mut [u16], tree: &mut [u16]) -> Reading
-    requires {
-        ⌜ (planJudged (now plan) .number ≡ 0) × (length (now run) ≤ 65535) × (0 < length (now held)) ⌝
-    }
-    ensures {
-        λ r. ⌜ Left (now (held .entry)) (runOf (now (plan .entry)) (now (run .entry)) (length (now (held .entry))) (length (now (tree .entry)))) r (now (held .exit)) (now (tree .exit)) ⌝
-    }
+    requires { ⌜ (planJudged (now plan) .number ≡ 0) × (length (now run) ≤ 65535) × (0 < length (now held)) ⌝ }
+    ensures { λ r. ⌜ Left (now (held .entry)) (runOf (now (plan .entry)) (now (run .entry)) (length (now (held .entry))) (length (now (tree .entry)))) r (now (held .exit)) (now (tree .exit)) ⌝ }
 {
     let nodes = u16_at(plan, 12) / 6;
     let kinds = u16_at(plan, SETTINGS_AT);
@@ -426,9 +422,7 @@ fn run_plan(plan: &[u8], run: &[u8], held: &mut [u16], tree: &mut [u16]) -> Read
 
 // Reads a run by a plan: the answer, with the tree's records in `tree`, and `held` zero.
 pub fn read(plan: &[u8], run: &[u8], held: &mut [u16], tree: &mut [u16]) -> Reading
-    ensures {
-        λ r. ⌜ Reads (now (plan .entry)) (now (run .entry)) (now (held .entry)) (now (tree .entry)) r (now (held .exit)) (now (tree .exit)) ⌝
-    }
+    ensures { λ r. ⌜ Reads (now (plan .entry)) (now (run .entry)) (now (held .entry)) (now (tree .entry)) r (now (held .exit)) (now (tree .exit)) ⌝ }
 {
     let form = judge(plan);
     if form.number != DONE {

@@ -1,9 +1,8 @@
 -- `listed::put_number` meets its contract: the digits before the last are those of a tenth of the number. The measure is the number.
 use Prim.Native.Nat.{ℕ, _<_}
 use native.Mathlib.Omega.{arith}
-use mathlib.Core.Path.{ap}
-use lib.ListN.{length, length-set}
-use Rattle.listed.proofs.Laws.{digits-one, digits-length, put-one, put-digits, digits-room, put-length}
+use lib.ListN.{length-set}
+use Rattle.listed.proofs.Laws.{digit-length, put-digit, digits-length, digits-room, put-digits, put-length}
 use borrow.Fn.Kinds.{In}
 use borrow.Fn.PlainCycle.{Measures, is, falls, and}
 use Rattle.listed.proofs.put_number.Reads as put-number
@@ -39,13 +38,13 @@ put-number-slice-write-out : (t : ℕ) → put-number-lts.Need-slice-write-out (
   put-number-below t,
   put-number.Post,
 ) (put-number-at t) put-number.Post
-put-number-slice-write-out t c = omega (arith, ap length (digits-one (c .before .before .args .value) (c .if1 .taken)))
+put-number-slice-write-out t c = omega (arith, digit-length _ (c .if1 .taken))
 
 put-number-add-result : (t : ℕ) → put-number-lts.Need-add-result (
   put-number-below t,
   put-number.Post,
 ) (put-number-at t) put-number.Post
-put-number-add-result t c = omega (arith, ap length (digits-one (c .before .before .args .value) (c .if1 .taken)))
+put-number-add-result t c = omega (arith, digit-length _ (c .if1 .taken))
 
 put-number-same-length : (t : ℕ) → put-number-lts.Need-same-length (
   put-number-below t,
@@ -59,7 +58,7 @@ put-number-returns :
     (put-number-below t, put-number.Post)
     (put-number-at t)
     put-number.Post
-put-number-returns t c = rw (digits-one (c .before .before .args .value) (c .if1 .taken)) (put-one _ _ _)
+put-number-returns t c = put-digit _ (c .if1 .taken) _ _ (c .before .before .pre .1)
 
 put-number-put-number-requires : (t : ℕ) → put-number-lts.Need-put-number-requires (
   put-number-below t,
@@ -105,7 +104,11 @@ put-number-returns-2 : (t : ℕ) → put-number-lts.Need-returns-2 (
   put-number-below t,
   put-number.Post,
 ) (put-number-at t) put-number.Post
-put-number-returns-2 t c = put-digits _ (c .before .before .before .before .if1 .left) (c .before .before .put-number .ensures)
+put-number-returns-2 t c =
+    put-digits _
+    (c .before .before .before .before .if1 .left)
+    (c .before .before .put-number .ensures)
+    (c .before .before .before .before .before .before .pre .1)
 
 pub +put-number-spec : {M : Type 1} → statement M
 +put-number-spec = close μ-put-number λ t. put-number-lts.spec (

@@ -24,9 +24,6 @@ slice-aggregate-put-bytes c = search needs
 put-bytes-requires : tie.Need-put-bytes-requires
 put-bytes-requires c κs = search needs
 
-cast-put-number : tie.Need-cast-put-number
-cast-put-number c = search needs
-
 put-number-requires-2 : tie.Need-put-number-requires-2
 put-number-requires-2 c κs =
     let small = c .before .before .before .before .before .before .before .before .fits .entry .fits in
@@ -53,7 +50,6 @@ put-node-spec =
     returns
     slice-aggregate-put-bytes
     put-bytes-requires
-    cast-put-number
     put-number-requires-2
     same-length-2
     returns-2)

@@ -18,7 +18,7 @@ abbrev μ-loop : tie.MeasureT-loop
 μ-loop out₀ at tree next₀ i₀ out next i = length tree - i
 
 loop-holds : tie.Need-loop-holds Inv-loop μ-loop
-loop-holds c = (omega arith, omega arith, lines-none _ (now (c .before .before .args .tree)))
+loop-holds c = (omega arith, omega arith, lines-none _ (now (c .before .before .args .tree)) (omega arith))
 
 mul-put-record : tie.Need-mul-put-record Inv-loop μ-loop
 mul-put-record c = search needs

@@ -42,7 +42,7 @@ returns c = sym (rw (le-ltb _ _ (c .if1 .taken)) refl)
 
 loop-holds : tie.Need-loop-holds Inv-loop μ-loop
 unfolding eventOf planFrom
-loop-holds c = 
+loop-holds c =
     let pre = c .before .before .before .before .pre in
     record { rest = rw (lt-ltb _ _ (c .if1 .left)) refl; safe = pre .parts; tree-long = refl; small = omega arith }
 
@@ -62,14 +62,17 @@ cell-at-requires : tie.Need-cell-at-requires Inv-loop μ-loop
 cell-at-requires c κs = (c .before .before .before .before .before .before .before .pre .runs, last-below (c .before .before .loop .inv) (c .before .loop-test .taken), omega (arith, c .before .before .before .if1 .left))
 
 walk-requires : tie.Need-walk-requires Inv-loop μ-loop
-walk-requires c κs = 
+walk-requires c κs =
     let inv = c .before .before .before .before .before .before .loop .inv in
-    let some = c .before .before .before .before .before .loop-test .taken in
-    (record {
-      runs = c .before .before .before .before .before .before .before .before .before .before .before .pre .runs;
-      parts = rw (inv .safe .long) (fewer inv some);
-      few-records = omega (arith, inv .small, c .before .before .before .before .before .before .before .before .before .before .before .pre .few-records);
-    }, c .before .before .before .before .before .before .before .if1 .left, last-below inv some)
+    let some = c .before .before .before .before .before .loop-test .taken in (
+      record {
+        runs = c .before .before .before .before .before .before .before .before .before .before .before .pre .runs;
+        parts = rw (inv .safe .long) (fewer inv some);
+        few-records = omega (arith, inv .small, c .before .before .before .before .before .before .before .before .before .before .before .pre .few-records);
+      },
+      c .before .before .before .before .before .before .before .if1 .left,
+      last-below inv some,
+    )
 
 same-length : tie.Need-same-length Inv-loop μ-loop
 same-length c = c .before .before .before .before .walk .kept .1 .1 .1 .1 .1 .1 .1 .0 ∙ c .before .before .before .before .before .before .before .before .before .before .before .loop .inv .safe .long
@@ -79,7 +82,7 @@ same-length-2 c = c .before .before .before .before .walk .kept .1 .1 .1 .1 .1 .
 
 returns-2 : tie.Need-returns-2 Inv-loop μ-loop
 unfolding planFrom
-returns-2 c = 
+returns-2 c =
     let inv = c .before .before .before .before .before .before .before .before .before .before .before .loop .inv in
     rw (inv .safe .long) at (c .before .before .before .before .walk .ensures)
     ∙ take-walks _ _ inv (c .before .before .before .before .before .before .before .before .before .before .loop-test .taken) (λ is. c .before .before .before .before .before .before .before .if2 .taken (c .before .before .before .before .before .before .before .before .cell-at .ensures .0 ∙ is))
@@ -95,7 +98,7 @@ same-length-4 c = c .before .before .before .before .before .before .loop .inv .
 
 returns-3 : tie.Need-returns-3 Inv-loop μ-loop
 unfolding planFrom
-returns-3 c = 
+returns-3 c =
     take-refuses _ _ (c .before .before .before .before .before .before .loop .inv) (c .before .before .before .before .before .loop-test .taken) (sym (c .before .before .before .cell-at .ensures .0) ∙ c .before .before .if2 .left)
     (ne-eqb _ _ (λ is. c .if3 .taken (c .before .cell-at2 .ensures .0 ∙ is)))
 
@@ -113,7 +116,7 @@ loop-less c = omega (arith, c .before .before .before .before .before .before .b
 
 loop-again : tie.Need-loop-again Inv-loop μ-loop
 unfolding planFrom
-loop-again c = 
+loop-again c =
     take-passes _ _ (c .before .before .before .before .before .before .before .before .before .before .loop .inv) (c .before .before .before .before .before .before .before .before .before .loop-test .taken) (sym (c .before .before .before .before .before .before .before .cell-at .ensures .0) ∙ c .before .before .before .before .before .before .if2 .left)
     (eq-eqb _ _ (sym (c .before .before .before .before .before .cell-at2 .ensures .0) ∙ c .before .before .before .before .if3 .left)) _ (c .before .before .note .ensures)
 

@@ -42,12 +42,12 @@ stood c = after (c .event .result) (c .event .last .1 .1 .1 .1 .1 .1 .0) (c .eve
 
 steps : (c : tie.After-event Inv-loop μ-loop)
     → stood c ≡ eventOf (onSlots (c .before .before .before .before .before .before .before .before .before .before .before .before .before .args .plan .now) (c .before .before .before .before .before .before .before .before .before .before .before .before .before .args .nodes) (c .before .before .before .before .before .before .before .before .before .before .before .before .before .args .kinds) (length (c .before .before .before .before .before .before .before .before .before .before .before .before .before .args .held .now))) (getD (c .before .before .before .before .before .before .before .before .before .before .before .before .before .args .run .now) (c .before .before .before .before .before .before .before .before .loop .at) 0)
-      (c .before .before .before .before .before .before .before .before .loop .count) (c .before .before .before .before .before .before .before .before .loop .written) (c .before .before .before .before .before .before .before .before .loop .held) (c .before .before .before .before .before .before .before .before .loop .tree)
+    (c .before .before .before .before .before .before .before .before .loop .count) (c .before .before .before .before .before .before .before .before .loop .written) (c .before .before .before .before .before .before .before .before .loop .held) (c .before .before .before .before .before .before .before .before .loop .tree)
 steps c = rw (c .before .before .before .wide .ensures .0, c .before .before .before .before .before .before .before .before .loop .inv .safe .long) at (c .event .ensures)
 
 loop-holds : tie.Need-loop-holds Inv-loop μ-loop
 unfolding planFrom
-loop-holds c = 
+loop-holds c =
     record { within = omega arith; rest = refl; safe = c .before .before .before .before .pre .0 .parts; tree-long = refl; small = omega arith }
 
 last-part-requires : tie.Need-last-part-requires Inv-loop μ-loop
@@ -63,7 +63,7 @@ event-requires : tie.Need-event-requires Inv-loop μ-loop
 event-requires c κs = ready (c .before .before .before .before .before .before .before)
 
 refuse-requires : tie.Need-refuse-requires Inv-loop μ-loop
-refuse-requires c κs = 
+refuse-requires c κs =
     let parts = ready (c .before .before .before .before .before .before .before .before .before .before .before .before .before .before) .parts in
     let runs = c .before .before .before .before .before .before .before .before .before .before .before .before .before .before .before .before .before .before .before .pre .0 .runs in
     (runs, rw (c .before .before .before .before .before .before .before .before .before .before .before .last-part .ensures) (last-node _ (runs .some-node) parts), omega (arith, c .before .before .before .before .before .before .before .before .before .before .before .before .before .loop-test .taken, c .before .before .before .before .before .before .before .before .before .before .before .before .before .before .before .before .before .before .before .pre .1))
@@ -75,7 +75,7 @@ same-length-2 : tie.Need-same-length-2 Inv-loop μ-loop
 same-length-2 c = c .before .before .before .before .before .before .before .event .kept .1 .1 .1 .1 .1 .1 .1 .0 ∙ c .before .before .before .before .before .before .before .before .before .before .before .before .before .before .before .loop .inv .tree-long
 
 returns : tie.Need-returns Inv-loop μ-loop
-returns c = 
+returns c =
     ap (λ (r : Reading). ended r (stood (c .before .before .before .before .before .before .before) .held) (stood (c .before .before .before .before .before .before .before) .tree))
     (refusal-is _ _ _ (length (c .before .before .before .before .before .before .before .before .before .before .before .before .before .before .before .before .before .before .before .before .args .held .now)) _ _ _ _ _ (c .refuse .ensures) (c .before .before .before .before .before .before .before .before .before .before .before .before .last-part .ensures))
     ∙ run-refused _ _ _ _ _ (c .before .before .before .before .before .before .before .before .before .before .before .before .before .before .before .loop .inv) (c .before .before .before .before .before .before .before .before .before .before .before .before .before .before .loop-test .taken) (stood (c .before .before .before .before .before .before .before)) (steps (c .before .before .before .before .before .before .before)) (c .before .if1 .taken)
@@ -88,7 +88,7 @@ loop-less c = omega (arith, c .before .before .before .before .before .before .b
 
 loop-again : tie.Need-loop-again Inv-loop μ-loop
 unfolding planFrom
-loop-again c = 
+loop-again c =
     let runs = c .before .before .before .before .before .before .before .before .before .before .before .before .before .before .before .before .before .before .before .pre .0 .runs in
     run-goes _ _ _ _ _ (c .before .before .before .before .before .before .before .before .before .before .before .before .before .before .loop .inv) (c .before .before .before .before .before .before .before .before .before .before .before .before .before .loop-test .taken) (stood (c .before .before .before .before .before .before)) (steps (c .before .before .before .before .before .before)) (plan-bounded runs _) (runs .few-nodes) (c .if1 .left) (c .before .before .before .before .before .before .event .kept .1 .1 .1 .1 .1 .1 .1 .0)
 
@@ -102,7 +102,7 @@ same-length-4 : tie.Need-same-length-4 Inv-loop μ-loop
 same-length-4 c = c .before .before .close .kept .1 .1 .1 .1 .1 .1 .1 .0 ∙ c .before .before .before .before .before .before .loop .inv .tree-long
 
 returns-2 : tie.Need-returns-2 Inv-loop μ-loop
-returns-2 c = 
+returns-2 c =
     let inv = c .before .before .before .before .before .before .loop .inv in
     rw (inv .safe .long) at (c .before .before .close .ensures) ∙ run-ends _ _ _ _ _ inv (c .before .before .before .before .before .loop-test .left)
 

@@ -52,7 +52,7 @@ same-length c = c .before .before .before .before .loop .inv .tree-long
 
 returns : tie.Need-returns Inv-loop μ-loop
 unfolding planFrom
-returns c = 
+returns c =
     finish-refuses _ (c .before .before .before .before .loop .inv) (c .before .before .before .loop-test .taken) (ne-eqb _ _ (λ is. c .if1 .taken (c .before .cell-at .ensures .0 ∙ is)))
 
 add-note : tie.Need-add-note Inv-loop μ-loop
@@ -69,7 +69,7 @@ loop-less c = omega (arith, c .before .before .before .before .before .before .b
 
 loop-again : tie.Need-loop-again Inv-loop μ-loop
 unfolding planFrom
-loop-again c = 
+loop-again c =
     finish-passes _ (c .before .before .before .before .before .before .before .before .loop .inv) (c .before .before .before .before .before .before .before .loop-test .taken)
     (eq-eqb _ _ (sym (c .before .before .before .before .before .cell-at .ensures .0) ∙ c .before .before .before .before .if1 .left)) _ (c .before .before .note .ensures)
 

@@ -48,13 +48,12 @@ unfolding planFrom
 loop-again c =
     let kind = c .before .before .before .loop .kind in
     let args = c .before .before .before .before .before .args in
-    let plan = onSlots (args .plan .now) (args .nodes) (args .kinds) 0 in
-    (
+    let plan = onSlots (args .plan .now) (args .nodes) (args .kinds) 0 in (
       omega (arith, c .before .before .loop-test .taken),
       ⊎-elim
-      (λ w. omega (arith, w .2, w .1 .ensures, c .before .before .before .loop .inv .1, row-with plan (args .node) kind (λ is. w .0 .taken (c .before .cell-at .ensures .0 ∙ is))))
-      (λ w. omega (arith, w .1, c .before .before .before .loop .inv .1, row-without plan (args .node) kind (sym (c .before .cell-at .ensures .0) ∙ w .0 .left)))
-      (c .if1 .came),
+          (λ w. omega (arith, w .2, w .1 .ensures, c .before .before .before .loop .inv .1, row-with plan (args .node) kind (λ is. w .0 .taken (c .before .cell-at .ensures .0 ∙ is))))
+          (λ w. omega (arith, w .1, c .before .before .before .loop .inv .1, row-without plan (args .node) kind (sym (c .before .cell-at .ensures .0) ∙ w .0 .left)))
+          (c .if1 .came),
     )
 
 returns : tie.Need-returns Inv-loop μ-loop

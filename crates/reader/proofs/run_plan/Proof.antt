@@ -23,8 +23,8 @@ held-kept v = v .events .kept .1 .1 .1 .1 .0 ∙ length-set (v .before .before .
 
 ended-is : (v : tie.After-events)
     → ended (v .events .result) (v .events .last .1 .1 .1 .1 .0) (v .events .last .1 .1 .1 .1 .1 .0)
-      ≡ readsOf (planOf (v .before .before .before .before .before .before .before .before .before .before .args .plan .now) (λ n. ltb n (length (v .before .before .before .before .before .before .before .before .before .before .args .held .now)))) 0 (v .before .before .before .before .before .before .before .before .before .before .args .run .now) 1 0
-      (set (v .before .before .before .before .before .before .before .before .before .before .args .held .now) 0 (planStart (v .before .before .before .before .before .before .before .before .before .before .args .plan .now))) (v .before .before .before .before .before .before .before .before .before .before .args .tree .now)
+    ≡ readsOf (planOf (v .before .before .before .before .before .before .before .before .before .before .args .plan .now) (λ n. ltb n (length (v .before .before .before .before .before .before .before .before .before .before .args .held .now)))) 0 (v .before .before .before .before .before .before .before .before .before .before .args .run .now) 1 0
+    (set (v .before .before .before .before .before .before .before .before .before .before .args .held .now) 0 (planStart (v .before .before .before .before .before .before .before .before .before .before .args .plan .now))) (v .before .before .before .before .before .before .before .before .before .before .args .tree .now)
 unfolding planCount planKinds planStart
 ended-is v =
     rw (v .before .before .before .before .before .u16-at .ensures .0, v .before .before .before .before .u16-at2 .ensures .0, v .before .before .before .u16-at3 .ensures .0, length-set (v .before .before .before .before .before .before .before .before .before .before .args .held .now) 0) at
@@ -52,12 +52,14 @@ events-requires : tie.Need-events-requires
 unfolding planCount planKinds planStart
 events-requires c κs =
     let args = c .before .before .before .before .before .before .before .before .before .args in
-    let pre = c .before .before .before .before .before .before .before .before .before .pre in
-    (record {
-      runs = rw (c .before .before .before .before .u16-at .ensures .0, c .before .before .before .u16-at2 .ensures .0) (runnable (args .plan .now) (pre .0));
-      parts = rw (c .before .before .before .before .u16-at .ensures .0, c .before .before .u16-at3 .ensures .0, length-set (args .held .now) 0) (started (args .plan .now) (args .run .now) (args .held .now) (args .tree .now) (pre .0) (pre .2));
-      few-records = omega arith;
-    }, pre .1)
+    let pre = c .before .before .before .before .before .before .before .before .before .pre in (
+      record {
+        runs = rw (c .before .before .before .before .u16-at .ensures .0, c .before .before .before .u16-at2 .ensures .0) (runnable (args .plan .now) (pre .0));
+        parts = rw (c .before .before .before .before .u16-at .ensures .0, c .before .before .u16-at3 .ensures .0, length-set (args .held .now) 0) (started (args .plan .now) (args .run .now) (args .held .now) (args .tree .now) (pre .0) (pre .2));
+        few-records = omega arith;
+      },
+      pre .1,
+    )
 
 clear-records-requires : tie.Need-clear-records-requires
 clear-records-requires c κs = search needs
