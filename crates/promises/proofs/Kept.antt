@@ -36,7 +36,7 @@ compiling-answers-once one other = compiles-unique one other
 pub compiling-listed : {bytes : List ℕ} {room : ℕ} {a : Compiled} {plan : List ℕ} → Compiles bytes room a plan → CompileAnswers room a plan
 compiling-listed compiled = compile-answers compiled
 
-pub reading-listed : (plan run : List ℕ) (slots room : ℕ) → ReadAnswers plan run room (readOf plan run slots room)
+pub reading-listed : (plan run : List ℕ) (slots room : ℕ) → ReadAnswers plan run slots room (readOf plan run slots room)
 reading-listed plan run slots room = read-answers plan run slots room
 
 -- Demand 2

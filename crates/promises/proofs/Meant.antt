@@ -2,7 +2,8 @@
 use Prim.Native.Nat.{ℕ, _+_, _*_, _-_, _≤_, _<_}
 use native.Mathlib.Omega.{arith}
 use mathlib.Core.Path.{_≡_, refl, sym, ap, _∙_}
-use mathlib.Core.List.{List, [], _∷_, _++_}
+use mathlib.Core.List.{List, [], _∷_}
+use mathlib.Core.Logic.{inl}
 use lib.Dec.{ltb}
 use lib.ListN.{length, take}
 use lib.Seq.{take-at}
@@ -25,7 +26,7 @@ use Rattle.meaning.proofs.Records.{records-bound, records-events, records-empty
 use Rattle.meaning.proofs.Slots.{slots-free}
 use Rattle.meaning.proofs.Theorem.{reading-means}
 use Rattle.promises.specs.Promises.{slotsEnough, roomEnough, ReadsAsMeant, FewRecords}
-use Rattle.promises.proofs.Listed.{plan-long, AcceptedRecords, accepted-records}
+use Rattle.promises.proofs.Listed.{plan-long, read-answers}
 use Rattle.promises.proofs.Outcomes.{reads-as-meant}
 
 -- the size that is answered is the plan's
@@ -94,7 +95,7 @@ module _ {bytes : List ℕ} {room : ℕ} {a : Compiled} {plan : List ℕ} (compi
   pub passed-records : (run : List ℕ) (slots tree-room : ℕ) → readOf (take (a .size) plan) run slots tree-room .reading .number ≡ DONE
       → FewRecords (bookOf bytes .count) (length run) (readOf (take (a .size) plan) run slots tree-room .reading .records)
   passed-records run slots tree-room accepts =
-      let found = accepted-records (planBytes bytes (known .marks)) run slots tree-room (rw given-plan at accepts) in
-      rw (given-plan, found .records-are)
+      let found = read-answers (planBytes bytes (known .marks)) run slots tree-room .counted (inl (rw given-plan at accepts)) in
+      rw (given-plan, found .2)
       (few-records (planFor (bookOf bytes) (known .marks) (λ n. ltb n slots)) run (passed-passes .well-formed .some-node)
-      (sym (plan-reads bytes (known .marks) (formed bytes (known .form)) (λ n. ltb n slots) run) ∙ found .accepts))
+      (sym (plan-reads bytes (known .marks) (formed bytes (known .form)) (λ n. ltb n slots) run) ∙ found .1))

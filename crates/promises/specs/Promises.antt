@@ -5,6 +5,7 @@ use mathlib.Core.Path.{_≡_}
 use mathlib.Core.Bool.{cond}
 use mathlib.Core.Logic.{_↔_, _≢_, _⊎_}
 use mathlib.Core.List.{List, _++_}
+use lib.Dec.{ltb}
 use lib.ListN.{length, getD}
 use Rattle.words.specs.Words.{zeros}
 use Rattle.book.specs.Book.{Book}
@@ -12,11 +13,12 @@ use Rattle.book.specs.Form.{DONE, formOf, bookOf}
 use Rattle.book.specs.declared.Node.{Node}
 use Rattle.plan.specs.Cells.{Marks, Marked, cellOf}
 use Rattle.plan.specs.Bytes.{planBytes}
-use Rattle.plan.specs.Form.{cellAt, planCount}
+use Rattle.plan.specs.Form.{cellAt, planCount, planOf}
+use Rattle.plan.specs.Running.{accepted, reading}
 use Rattle.compiler.specs.declared.Compiled.{Compiled}
 use Rattle.compiler.specs.Compiles.{Compiles, Fruitful, Free, sizeOf}
 use Rattle.reader.specs.Machine.{answered}
-use Rattle.reader.specs.Numbers.{UNKNOWN, UNEXPECTED, END}
+use Rattle.reader.specs.Numbers.{UNKNOWN, UNEXPECTED, END, NO-ROOM}
 use Rattle.reader.specs.Reads.{Outcome, outcome, readOf}
 use Rattle.meaning.specs.Meaning.{Derives, tree, full, Lawful, Refuses, Ends}
 
@@ -27,11 +29,13 @@ pub record CompileAnswers (room : ℕ) (a : Compiled) (plan : List ℕ) : Type 0
   pub refused-zero : a .number ≢ DONE → plan ≡ zeros room
 
 -- Demand 1, reading, for all bytes, forged plans included: the answer is 0 or one of 8 to 16, and a refusal leaves the whole tree buffer
--- zero; the count of records is at most (2N − 2) times the events, and one
-pub record ReadAnswers (plan run : List ℕ) (room : ℕ) (o : Outcome) : Type 0 where
+-- zero; the count of records is that of the list that running the plan gives, at most (2N − 2) times the events, and one
+pub record ReadAnswers (plan run : List ℕ) (slots room : ℕ) (o : Outcome) : Type 0 where
   pub listed : (o .reading .number ≡ DONE) ⊎ ((8 ≤ o .reading .number) × (o .reading .number ≤ 16))
   pub whole : length (o .tree) ≡ room
   pub refused-zero : o .reading .number ≢ DONE → o .tree ≡ zeros room
+  pub counted : (o .reading .number ≡ DONE) ⊎ (o .reading .number ≡ NO-ROOM)
+      → (records : List ℕ) × (reading (planOf plan (λ n. ltb n slots)) run ≡ accepted records) × (o .reading .records ≡ length records)
   pub few-records : o .reading .records ≤ (2 * planCount plan - 2) * length run + 1
 
 -- Demand 2: given plan room enough, a well-formed book passes exactly when its start can produce some run and no node reachable from the
