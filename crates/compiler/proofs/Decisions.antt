@@ -6,13 +6,12 @@ use mathlib.Core.Bool.{Bool, true, false, _||_, _&&_, true≢false, false≢true
 use mathlib.Core.Logic.{⊎-elim}
 use lib.Dec.{eqb}
 use Rattle.words.proofs.Tests.{both, joined}
-use Rattle.rules.proofs.Growing.{or-true}
 use Rattle.book.specs.declared.Node.{Node}
 use Rattle.book.specs.declared.Node.the-variants.{Fail, Empty, Token, Either, Then, Tagged, Ref}
 use Rattle.book.specs.Book.{Book, WellFormed}
 use Rattle.rules.specs.Rules.{Productive, p-empty, p-token, p-left, p-right, p-then, p-tagged, p-ref, Nullable, n-empty, n-left, n-right, n-then, n-tagged, n-ref, First, f-token, f-left, f-right, f-hold, f-skip, f-tagged, f-ref, Snf, s-left, s-right, s-first-left, s-first-right, s-then-left, s-then-right, s-tagged, s-ref}
 use Rattle.compiler.proofs.Bounds.{named-below}
-use Rattle.compiler.proofs.Least.{Decided, decided, or-left, or-right}
+use Rattle.compiler.proofs.Least.{Decided, decided, or-cases, or-left, or-right}
 
 module _ (book : Book) (formed : WellFormed book) where
   abbrev node : ℕ → Node
@@ -47,7 +46,7 @@ module _ (book : Book) (formed : WellFormed book) where
   productive-sound t h Fail e = absurd (false≢true e)
   productive-sound t h Empty e = p-empty
   productive-sound t h (Token k) e = p-token
-  productive-sound t h (Either l r) e = ⊎-elim (λ a. p-left (h l a)) (λ b. p-right (h r b)) (or-true (t l) (t r) e)
+  productive-sound t h (Either l r) e = ⊎-elim (λ a. p-left (h l a)) (λ b. p-right (h r b)) (or-cases (t l) (t r) e)
   productive-sound t h (Then l r) e = let (a, b) = both (t l) (t r) e in p-then (h l a) (h r b)
   productive-sound t h (Tagged l a) e = p-tagged (h l e)
   productive-sound t h (Ref l) e = p-ref (h l e)
@@ -83,7 +82,7 @@ module _ (book : Book) (formed : WellFormed book) where
   nullable-sound t h Fail e = absurd (false≢true e)
   nullable-sound t h Empty e = n-empty
   nullable-sound t h (Token k) e = absurd (false≢true e)
-  nullable-sound t h (Either l r) e = ⊎-elim (λ a. n-left (h l a)) (λ b. n-right (h r b)) (or-true (t l) (t r) e)
+  nullable-sound t h (Either l r) e = ⊎-elim (λ a. n-left (h l a)) (λ b. n-right (h r b)) (or-cases (t l) (t r) e)
   nullable-sound t h (Then l r) e = let (a, b) = both (t l) (t r) e in n-then (h l a) (h r b)
   nullable-sound t h (Tagged l a) e = n-tagged (h l e)
   nullable-sound t h (Ref l) e = n-ref (h l e)
@@ -125,11 +124,11 @@ module _ (book : Book) (formed : WellFormed book) where
   first-sound k t h Fail e = absurd (false≢true e)
   first-sound k t h Empty e = absurd (false≢true e)
   first-sound k t h (Token j) e = rw (eqb-true j k e) f-token
-  first-sound k t h (Either l r) e = ⊎-elim (λ a. f-left (h l a)) (λ b. f-right (h r b)) (or-true (t l) (t r) e)
+  first-sound k t h (Either l r) e = ⊎-elim (λ a. f-left (h l a)) (λ b. f-right (h r b)) (or-cases (t l) (t r) e)
   first-sound k t h (Then l r) e =
       ⊎-elim (λ pair. let (a, b) = both (t l) (makes r) pair in f-hold (h l a) (productive-decided .test-is r .0 b))
       (λ pair. let (a, b) = both (null l) (t r) pair in f-skip (nullable-decided .test-is l .0 a) (h r b))
-      (or-true (t l && makes r) (null l && t r) e)
+      (or-cases (t l && makes r) (null l && t r) e)
   first-sound k t h (Tagged l a) e = f-tagged (h l e)
   first-sound k t h (Ref l) e = f-ref (h l e)
 
@@ -170,17 +169,17 @@ module _ (book : Book) (formed : WellFormed book) where
   snf-sound k t h Empty e = absurd (false≢true e)
   snf-sound k t h (Token j) e = absurd (false≢true e)
   snf-sound k t h (Either l r) e =
-      ⊎-elim (λ sides. ⊎-elim (λ a. s-left (h l a)) (λ b. s-right (h r b)) (or-true (t l) (t r) sides))
+      ⊎-elim (λ sides. ⊎-elim (λ a. s-left (h l a)) (λ b. s-right (h r b)) (or-cases (t l) (t r) sides))
       (λ firsts.
       ⊎-elim
       (λ pair. let (a, b) = both (first k l) (null r) pair in s-first-left (first-decided k .test-is l .0 a) (nullable-decided .test-is r .0 b))
       (λ pair. let (a, b) = both (null l) (first k r) pair in s-first-right (nullable-decided .test-is l .0 a) (first-decided k .test-is r .0 b))
-      (or-true (first k l && null r) (null l && first k r) firsts))
-      (or-true (t l || t r) (first k l && null r || null l && first k r) e)
+      (or-cases (first k l && null r) (null l && first k r) firsts))
+      (or-cases (t l || t r) (first k l && null r || null l && first k r) e)
   snf-sound k t h (Then l r) e =
       ⊎-elim (λ pair. let (a, b) = both (t l) (null r) pair in s-then-left (h l a) (nullable-decided .test-is r .0 b))
       (λ pair. let (a, b) = both (makes l) (t r) pair in s-then-right (productive-decided .test-is l .0 a) (h r b))
-      (or-true (t l && null r) (makes l && t r) e)
+      (or-cases (t l && null r) (makes l && t r) e)
   snf-sound k t h (Tagged l a) e = s-tagged (h l e)
   snf-sound k t h (Ref l) e = s-ref (h l e)
 

@@ -6,7 +6,7 @@ use native.Mathlib.Decide.{ℕ-discrete}
 use mathlib.Core.Path.{_≡_, refl, ap}
 use mathlib.Core.Bool.{Bool, true, false, cond, _||_, false≢true}
 use mathlib.Core.Logic.{_↔_, _⊎_, inl, inr, ⊎-elim}
-use Rattle.rules.proofs.Growing.{or-true}
+pub use Rattle.rules.proofs.Growing.{or-true as or-cases}
 
 -- a test that says of each number whether something holds
 pub record Decided (Of : ℕ → Type 0) : Type 0 where
@@ -90,7 +90,7 @@ module _ {Of : ℕ → Type 0} {bound : ℕ} {step : (ℕ → Bool) → ℕ → 
   module _ (t : ℕ → Bool) (sound : (i : ℕ) → t i ≡ true → Of i) where
     next-sound : (i : ℕ) → next t i ≡ true → Of i
     unfolding next
-    next-sound i e = ⊎-elim (sound i) (ruled .sound t sound i) (or-true (t i) (step t i) e)
+    next-sound i e = ⊎-elim (sound i) (ruled .sound t sound i) (or-cases (t i) (step t i) e)
 
     settled : (size t bound < size (next t) bound → Decided Of) → Differ (step t) t bound → Decided Of
     unfolding next

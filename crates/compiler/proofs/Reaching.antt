@@ -8,13 +8,12 @@ use mathlib.Core.Bool.{Bool, true, false, _||_, _&&_, false≢true}
 use mathlib.Core.Logic.{⊎-elim}
 use lib.Dec.{eqb}
 use Rattle.words.proofs.Tests.{both, joined}
-use Rattle.rules.proofs.Growing.{or-true}
 use Rattle.book.specs.declared.Node.{Node}
 use Rattle.book.specs.declared.Node.the-variants.{Fail, Empty, Token, Either, Then, Tagged, Ref}
 use Rattle.book.specs.Book.{Book, WellFormed}
 use Rattle.rules.specs.Rules.{Child, either-left, either-right, then-left, then-right, tagged-left, ref-left, Reach, r-start, r-child}
 use Rattle.compiler.proofs.Bounds.{parent-below, child-below}
-use Rattle.compiler.proofs.Least.{Decided, decided, or-left, or-right}
+use Rattle.compiler.proofs.Least.{Decided, decided, or-cases, or-left, or-right}
 
 -- whether a number is the left or right of a node
 child? : Node → ℕ → Bool
@@ -32,9 +31,9 @@ child-sound Fail m e = absurd (false≢true e)
 child-sound Empty m e = absurd (false≢true e)
 child-sound (Token k) m e = absurd (false≢true e)
 child-sound (Either l r) m e =
-    ⊎-elim (λ a. rw (eqb-true l m a) either-left) (λ b. rw (eqb-true r m b) either-right) (or-true (eqb l m) (eqb r m) e)
+    ⊎-elim (λ a. rw (eqb-true l m a) either-left) (λ b. rw (eqb-true r m b) either-right) (or-cases (eqb l m) (eqb r m) e)
 child-sound (Then l r) m e =
-    ⊎-elim (λ a. rw (eqb-true l m a) then-left) (λ b. rw (eqb-true r m b) then-right) (or-true (eqb l m) (eqb r m) e)
+    ⊎-elim (λ a. rw (eqb-true l m a) then-left) (λ b. rw (eqb-true r m b) then-right) (or-cases (eqb l m) (eqb r m) e)
 child-sound (Tagged l a) m e = rw (eqb-true l m e) tagged-left
 child-sound (Ref l) m e = rw (eqb-true l m e) ref-left
 
@@ -55,7 +54,7 @@ any (suc n) f = f n || any n f
 any-some : (n : ℕ) (f : ℕ → Bool) → any n f ≡ true → (i : ℕ) × (f i ≡ true)
 unfolding any
 any-some zero f e = absurd (false≢true e)
-any-some (suc n) f e = ⊎-elim (λ here. (n, here)) (any-some n f) (or-true (f n) (any n f) e)
+any-some (suc n) f e = ⊎-elim (λ here. (n, here)) (any-some n f) (or-cases (f n) (any n f) e)
 
 any-here : (n : ℕ) (f : ℕ → Bool) (i : ℕ) → i < n → f i ≡ true → any n f ≡ true
 unfolding any
@@ -94,13 +93,13 @@ module _ (book : Book) (formed : WellFormed book) where
             let (n, pair) = any-some (book .count) (λ i. t i && child? (node i) m) some in
             let (a, c) = both (t n) (child? (node n) m) pair in
             r-child (h n a) (child-sound (node n) m c))
-            (or-true (eqb (book .start) m) _ e);
+            (or-cases (eqb (book .start) m) _ e);
         within =
             λ t m e.
             ⊎-elim (λ same. rw (← eqb-true (book .start) m same) (formed .start-below))
             (λ some.
             let (n, pair) = any-some (book .count) (λ i. t i && child? (node i) m) some in
             child-below book formed n (child-sound (node n) m (both (t n) (child? (node n) m) pair .1)))
-            (or-true (eqb (book .start) m) _ e);
+            (or-cases (eqb (book .start) m) _ e);
         complete = λ t closed m d. reach-complete t closed d;
       })
