@@ -103,7 +103,7 @@ lowest-reached {n = n} reached lowest =
       least = λ m below reach. lowest .least m below (reached .reach-is m (omega (arith, lowest .within)) .1 reach);
     }
 
-module _ {bytes : List ℕ} {count start : ℕ} {table : List ℕ} (known : Known bytes count start table) where
+module _ {bytes : List ℕ} {count : ℕ} {table : List ℕ} (known : Known bytes count table) where
   wf : WellFormed (bookOf bytes)
   wf = well-formed (formed bytes (known .good .is-done))
 
@@ -111,70 +111,11 @@ module _ {bytes : List ℕ} {count start : ℕ} {table : List ℕ} (known : Know
   unfolding bookOf
   look-up = ap (nodes bytes nodesAt) (known .count-is)
 
-  pub start-below : start < count
-  start-below = omega (arith, wf .start-below, known .start-is, known .count-is)
-
   pub count-small : count ≤ 512
   count-small = omega (arith, wf .few-nodes, known .count-is)
 
   pub kinds-small : {kinds : ℕ} → kinds ≡ u16At bytes settingsAt → kinds ≤ 64
   kinds-small is = omega (arith, wf .few-kinds, book-kinds bytes)
-
-  fruitful-is : Has (getD table (4 * start) 0) 0 ↔ Fruitful (bookOf bytes)
-  fruitful-is =
-      subst (λ n. Has (getD table (4 * start) 0) 0 ↔ Productive (bookOf bytes .node) (bookOf bytes .node n)) (known .start-is)
-      (subst (λ node. Has (getD table (4 * start) 0) 0 ↔ Productive node (node start)) look-up
-      (known .facts .productive-is start 0 start-below (omega arith)))
-
-  start-fruitful : has? (getD table (4 * start) 0) 0 ≡ true → Fruitful (bookOf bytes)
-  start-fruitful has = fruitful-is .0 (has?-is _ 0 .0 has)
-
-  -- 5: the start is not productive
-  pub answered-barren : {plan : List ℕ} {room : ℕ}
-      → plan ≡ zeros room
-      → has? (getD table (4 * start) 0) 0 ≡ false
-      → Compiles bytes room (answer BARREN start 0 0) plan
-  answered-barren clear none =
-      rw (known .start-is, clear)
-      (barren (known .good .is-done) (λ fruitful. true≢false (sym (has?-is _ 0 .1 (fruitful-is .1 fruitful)) ∙ none)))
-
-  module _ {n : ℕ} (lowest : LowestConflict (nodes bytes nodesAt count) (Reach (nodes bytes nodesAt count) start) count n) where
-    lowest-is : LowestConflict (bookOf bytes .node) (Reach (bookOf bytes .node) (bookOf bytes .start)) (bookOf bytes .count) n
-    lowest-is =
-        subst₃ (λ node s c. LowestConflict node (Reach node s) c n) look-up (known .start-is) (known .count-is) lowest
-
-    -- the kind answered at a conflict
-    pub conflict-reported : {kind : ℕ}
-        → n < count
-        → ConflictAt (nodes bytes nodesAt count) (nodes bytes nodesAt count n) kind
-        → Reported (bookOf bytes .node) (bookOf bytes .node n) kind
-    conflict-reported {kind} below found =
-        subst (λ node. Reported node (node n) kind) look-up (found .some (λ e. found .none e (lowest .conflict below)))
-
-    pub conflict-small : {kind : ℕ}
-        → n < count
-        → ConflictAt (nodes bytes nodesAt count) (nodes bytes nodesAt count n) kind
-        → kind < 256
-    conflict-small below found = reported-small (bookOf bytes) wf (conflict-reported below found)
-
-    -- 6: the lowest reachable node that has a conflict
-    pub answered-conflict : {plan : List ℕ} {room kind : ℕ}
-        → plan ≡ zeros room
-        → has? (getD table (4 * start) 0) 0 ≡ true
-        → n < count
-        → ConflictAt (nodes bytes nodesAt count) (nodes bytes nodesAt count n) kind
-        → Compiles bytes room (answer CONFLICT n kind 0) plan
-    answered-conflict clear has below found =
-        rw clear
-        (conflict (known .good .is-done) (start-fruitful has) (lowest-is .least) (lowest-is .among (omega (arith, known .count-is))) (conflict-reported below found))
-
-    -- no reachable node has a conflict
-    pub sound : has? (getD table (4 * start) 0) 0 ≡ true → count ≤ n → Sound bytes
-    sound has none =
-        record {
-          fruitful = start-fruitful has;
-          free = λ m reach c. lowest-is .least m (omega (arith, reach-below (bookOf bytes) wf reach, known .count-is)) reach c;
-        }
 
   first-in-book : (n k : ℕ) → n < count → k < 64 → Has (firstSet table n) k ↔ First (bookOf bytes .node) (bookOf bytes .node n) k
   first-in-book n k below kind =
@@ -229,3 +170,63 @@ module _ {bytes : List ℕ} {count start : ℕ} {table : List ℕ} (known : Know
     answered-done small fits written-is =
         rw (written-is, ← size-is, size-own)
         (done (known .good .is-done) (sound .fruitful) (sound .free) (rw size-own at fits) (table-marked small))
+
+  module _ {start : ℕ} (start-is : start ≡ bookOf bytes .start) where
+    pub start-below : start < count
+    start-below = omega (arith, wf .start-below, known .count-is)
+
+    fruitful-is : Has (getD table (4 * start) 0) 0 ↔ Fruitful (bookOf bytes)
+    fruitful-is =
+        subst (λ n. Has (getD table (4 * start) 0) 0 ↔ Productive (bookOf bytes .node) (bookOf bytes .node n)) start-is
+        (subst (λ node. Has (getD table (4 * start) 0) 0 ↔ Productive node (node start)) look-up
+        (known .facts .productive-is start 0 start-below (omega arith)))
+
+    start-fruitful : has? (getD table (4 * start) 0) 0 ≡ true → Fruitful (bookOf bytes)
+    start-fruitful has = fruitful-is .0 (has?-is _ 0 .0 has)
+
+    -- 5: the start is not productive
+    pub answered-barren : {plan : List ℕ} {room : ℕ}
+        → plan ≡ zeros room
+        → has? (getD table (4 * start) 0) 0 ≡ false
+        → Compiles bytes room (answer BARREN start 0 0) plan
+    answered-barren clear none =
+        rw (start-is, clear)
+        (barren (known .good .is-done) (λ fruitful. true≢false (sym (has?-is _ 0 .1 (fruitful-is .1 fruitful)) ∙ none)))
+
+    module _ {n : ℕ} (lowest : LowestConflict (nodes bytes nodesAt count) (Reach (nodes bytes nodesAt count) start) count n) where
+      lowest-is : LowestConflict (bookOf bytes .node) (Reach (bookOf bytes .node) (bookOf bytes .start)) (bookOf bytes .count) n
+      lowest-is =
+          subst₃ (λ node s c. LowestConflict node (Reach node s) c n) look-up start-is (known .count-is) lowest
+
+      -- the kind answered at a conflict
+      pub conflict-reported : {kind : ℕ}
+          → n < count
+          → ConflictAt (nodes bytes nodesAt count) (nodes bytes nodesAt count n) kind
+          → Reported (bookOf bytes .node) (bookOf bytes .node n) kind
+      conflict-reported {kind} below found =
+          subst (λ node. Reported node (node n) kind) look-up (found .some (λ e. found .none e (lowest .conflict below)))
+
+      pub conflict-small : {kind : ℕ}
+          → n < count
+          → ConflictAt (nodes bytes nodesAt count) (nodes bytes nodesAt count n) kind
+          → kind < 256
+      conflict-small below found = reported-small (bookOf bytes) wf (conflict-reported below found)
+
+      -- 6: the lowest reachable node that has a conflict
+      pub answered-conflict : {plan : List ℕ} {room kind : ℕ}
+          → plan ≡ zeros room
+          → has? (getD table (4 * start) 0) 0 ≡ true
+          → n < count
+          → ConflictAt (nodes bytes nodesAt count) (nodes bytes nodesAt count n) kind
+          → Compiles bytes room (answer CONFLICT n kind 0) plan
+      answered-conflict clear has below found =
+          rw clear
+          (conflict (known .good .is-done) (start-fruitful has) (lowest-is .least) (lowest-is .among (omega (arith, known .count-is))) (conflict-reported below found))
+
+      -- no reachable node has a conflict
+      pub sound : has? (getD table (4 * start) 0) 0 ≡ true → count ≤ n → Sound bytes
+      sound has none =
+          record {
+            fruitful = start-fruitful has;
+            free = λ m reach c. lowest-is .least m (omega (arith, reach-below (bookOf bytes) wf reach, known .count-is)) reach c;
+          }

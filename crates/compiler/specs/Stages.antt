@@ -1,5 +1,5 @@
 -- What is known between the tests of compiling.
-use Prim.Native.Nat.{ℕ, _+_, _*_, _≤_}
+use Prim.Native.Nat.{ℕ, _*_, _≤_}
 use mathlib.Core.Path.{_≡_}
 use mathlib.Core.List.{List}
 use lib.ListN.{length}
@@ -17,11 +17,10 @@ pub record Clear (plan : List ℕ) : Type 0 where
 pub record GoodForm (bytes : List ℕ) : Type 0 where
   pub is-done : formOf bytes .number ≡ DONE
 
--- a book of good form with so many nodes and a start, whose facts stand in a table
-pub record Known (bytes : List ℕ) (count start : ℕ) (table : List ℕ) : Type 0 where
+-- a book of good form with so many nodes, whose facts stand in a table
+pub record Known (bytes : List ℕ) (count : ℕ) (table : List ℕ) : Type 0 where
   pub good : GoodForm bytes
   pub count-is : count ≡ bookOf bytes .count
-  pub start-is : start ≡ bookOf bytes .start
   pub long : 4 * count ≤ length table
   pub facts : Facts (nodes bytes nodesAt count) count table
 

@@ -1,18 +1,20 @@
 // Compiling a book to a plan: numbers 0 to 7.
 ghost use mathlib.Core.Path.{_≡_};
-ghost use Prim.Native.Nat.{_<_, _≤_};
+ghost use Prim.Native.Nat.{_<_, _≤_, _^_};
 ghost use lib.ListN.{length};
 ghost use Rattle.book.specs.Decode.{nodes};
-ghost use Rattle.book.specs.Form.{nodesAt};
+ghost use Rattle.book.specs.Form.{nodesAt, bookOf};
 ghost use Rattle.plan.specs.Form.{planSize};
 ghost use Rattle.rules.specs.Rules.{Reach};
 ghost use Rattle.rules.specs.Growth.{Blank};
 ghost use Rattle.rules.specs.Conflicts.{LowestConflict};
-ghost use Rattle.compiler.specs.Compiles.{Compiles};
+ghost use Rattle.compiler.specs.Compiles.{Compiles, answer};
 ghost use Rattle.compiler.specs.Stages.{Clear, GoodForm, Known, Sound};
 use book::DONE;
 use book::NODES_AT;
 use book::SETTINGS_AT;
+use plan::write_plan;
+use words::clear_bytes;
 use words::u16_at;
 
 // The answers' numbers, after those of a book's form.
@@ -31,6 +33,19 @@ pub struct Compiled {
     pub size: u32,
 }
 
+// The answer with a number, a place, a kind and a size.
+fn answered(number: u32, place: usize, kind: usize, size: usize) -> Compiled
+    requires { ⌜ (place < 2 ^ 32) × (kind < 2 ^ 32) × (size < 2 ^ 32) ⌝ }
+    ensures { λ r. ⌜ r ≡ answer number place kind size ⌝ }
+{
+    Compiled {
+        number,
+        place: place as u32,
+        kind: kind as u32,
+        size: size as u32,
+    }
+}
+
 // The size of the plan of a book with so many nodes and kinds.
 fn plan_size(count: usize, kinds: usize) -> usize
     requires { ⌜ (count ≤ 512) × (kinds ≤ 64) ⌝ }
@@ -47,7 +62,8 @@ fn lowest_conflict(
     table: &[u64],
     marks: &mut [u64],
 ) -> usize
-    requires { ⌜ Known (now book) count start (now table) ⌝ }
+    requires { ⌜ Known (now book) count (now table) ⌝ }
+    requires { ⌜ start ≡ bookOf (now book) .start ⌝ }
     requires { ⌜ Blank 8 (now marks) ⌝ }
     ensures { λ r. ⌜ LowestConflict (nodes (now (book .entry)) nodesAt count) (Reach (nodes (now (book .entry)) nodesAt count) start) count r ⌝ }
 {
@@ -56,8 +72,8 @@ fn lowest_conflict(
 }
 
 // Compiles a book that passes where there is room: PLAN ROOM, or done with the plan.
-fn finish(book: &[u8], count: usize, start: usize, table: &[u64], plan: &mut [u8]) -> Compiled
-    requires { ⌜ Known (now book) count start (now table) ⌝ }
+fn finish(book: &[u8], count: usize, table: &[u64], plan: &mut [u8]) -> Compiled
+    requires { ⌜ Known (now book) count (now table) ⌝ }
     requires { ⌜ Clear (now plan) ⌝ }
     requires { ⌜ Sound (now book) ⌝ }
     ensures { λ r. ⌜ Compiles (now (book .entry)) (length (now (plan .entry))) r (now (plan .exit)) ⌝ }
@@ -65,48 +81,30 @@ fn finish(book: &[u8], count: usize, start: usize, table: &[u64], plan: &mut [u8
     let kinds = u16_at(book, SETTINGS_AT);
     let size = plan_size(count, kinds);
     if plan.len() < size {
-        return Compiled {
-            number: PLAN_ROOM,
-            place: 0,
-            kind: 0,
-            size: size as u32,
-        };
+        return answered(PLAN_ROOM, 0, 0, size);
     }
-    plan::write_plan(book, count, kinds, table, plan);
-    Compiled {
-        number: DONE,
-        place: 0,
-        kind: 0,
-        size: size as u32,
-    }
+    write_plan(book, count, kinds, table, plan);
+    answered(DONE, 0, 0, size)
 }
 
 // Compiles a book with its facts at hand: BARREN, CONFLICT or on to the plan.
 fn judge(book: &[u8], count: usize, start: usize, table: &[u64], plan: &mut [u8]) -> Compiled
-    requires { ⌜ Known (now book) count start (now table) ⌝ }
+    requires { ⌜ Known (now book) count (now table) ⌝ }
+    requires { ⌜ start ≡ bookOf (now book) .start ⌝ }
     requires { ⌜ Clear (now plan) ⌝ }
     ensures { λ r. ⌜ Compiles (now (book .entry)) (length (now (plan .entry))) r (now (plan .exit)) ⌝ }
 {
-    if !kinds::has(table[4 * start], 0) {
-        return Compiled {
-            number: BARREN,
-            place: start as u32,
-            kind: 0,
-            size: 0,
-        };
+    let facts = rules::facts_at(table, start);
+    if !kinds::has(facts.productive, 0) {
+        return answered(BARREN, start, 0, 0);
     }
     let mut marks = [0u64; 8];
     let n = lowest_conflict(book, count, start, table, &mut marks);
     if n < count {
         let kind = rules::conflict_at(book, NODES_AT, count, n, table);
-        return Compiled {
-            number: CONFLICT,
-            place: n as u32,
-            kind: kind as u32,
-            size: 0,
-        };
+        return answered(CONFLICT, n, kind, 0);
     }
-    finish(book, count, start, table, plan)
+    finish(book, count, table, plan)
 }
 
 // Compiles a book of good form, with a blank table for its facts, to a clear plan buffer.
@@ -126,15 +124,10 @@ fn compile_formed(book: &[u8], table: &mut [u64], plan: &mut [u8]) -> Compiled
 pub fn compile(book: &[u8], plan: &mut [u8]) -> Compiled
     ensures { λ r. ⌜ Compiles (now (book .entry)) (length (now (plan .entry))) r (now (plan .exit)) ⌝ }
 {
-    words::clear_bytes(plan);
+    clear_bytes(plan);
     let judged = book::form(book);
     if judged.number != DONE {
-        return Compiled {
-            number: judged.number,
-            place: judged.place,
-            kind: 0,
-            size: 0,
-        };
+        return answered(judged.number, judged.place as usize, 0, 0);
     }
     let mut table = [0u64; 2048];
     compile_formed(book, &mut table, plan)

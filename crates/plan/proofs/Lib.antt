@@ -8,4 +8,5 @@ pub mod PlanDone
 mod Row
 mod Rows
 mod Stored
+pub mod TableMarks
 pub mod Writing

@@ -8,3 +8,5 @@ mod Takes
 mod Rows
 mod Goes
 pub mod Settles
+pub mod Fold
+pub mod Answers

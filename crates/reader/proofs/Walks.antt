@@ -2,7 +2,7 @@
 use mathlib.Core.Path.{_≡_, refl, sym, ap, _∙_}
 use mathlib.Core.Bool.{true, false}
 use mathlib.Core.List.{List}
-use Prim.Native.Nat.{ℕ, zero, suc, _+_, _*_, _-_, _≤_, _<_}
+use Prim.Native.Nat.{ℕ, zero, suc, _+_, _*_, _≤_, _<_}
 use native.Mathlib.Numerals.{add-one}
 use native.Mathlib.Omega.{arith}
 use borrow.Author.Tests.{lt-ltb, le-ltb}
@@ -43,13 +43,11 @@ module _ (p : Plan) (k : ℕ) (goal : After) (slots room bound : ℕ) where
     unfolding walkOf
     walk-ends none = let z : left ≡ 0 = omega arith in rw z at (w .rest)
 
-    module _ (some : 0 < left) (tree′ : List ℕ) (noted : tree′ ≡ set tree written n) where
+    module _ (left′ : ℕ) (one : left ≡ suc left′) (tree′ : List ℕ) (noted : tree′ ≡ set tree written n) where
       -- the visit of the node
-      visited : visitOf (p .cell n k) (walkOf p k (left - 1)) (p .left n) (p .right n) count (written + 1) held tree′ ≡ goal
+      visited : visitOf (p .cell n k) (walkOf p k left′) (p .left n) (p .right n) count (written + 1) held tree′ ≡ goal
       unfolding walkOf
-      visited =
-          let one : left ≡ suc (left - 1) = omega arith in
-          rw (noted, add-one written) (rw one at (w .rest))
+      visited = rw (noted, add-one written) (rw one at (w .rest))
 
       tree′-long : length tree′ ≡ room
       tree′-long = ap length noted ∙ simp length-set (w .tree-long)
@@ -66,7 +64,7 @@ module _ (p : Plan) (k : ℕ) (goal : After) (slots room bound : ℕ) where
       walk-deep is full = rw (is, le-ltb count (length held) full) at visited
 
       module _ (b : Bounded p slots) (m : ℕ) where
-        pub walk-left : p .cell n k ≡ 2 → m ≡ p .left n → Walking (left - 1) m count (written + 1) held tree′
+        pub walk-left : p .cell n k ≡ 2 → m ≡ p .left n → Walking left′ m count (written + 1) held tree′
         unfolding visitOf
         walk-left is goes =
             record {
@@ -78,7 +76,7 @@ module _ (p : Plan) (k : ℕ) (goal : After) (slots room bound : ℕ) where
               small = omega (arith, w .small);
             }
 
-        pub walk-right : p .cell n k ≡ 5 → m ≡ p .right n → Walking (left - 1) m count (written + 1) held tree′
+        pub walk-right : p .cell n k ≡ 5 → m ≡ p .right n → Walking left′ m count (written + 1) held tree′
         unfolding visitOf
         walk-right is goes =
             record {
@@ -91,7 +89,7 @@ module _ (p : Plan) (k : ℕ) (goal : After) (slots room bound : ℕ) where
             }
 
         pub walk-holds : (r : ℕ) → p .cell n k ≡ 3 → count < length held → m ≡ p .left n → r ≡ p .right n
-            → Walking (left - 1) m (count + 1) (written + 1) (set held count r) tree′
+            → Walking left′ m (count + 1) (written + 1) (set held count r) tree′
         unfolding visitOf
         walk-holds r is free goes holds =
             record {
@@ -104,7 +102,7 @@ module _ (p : Plan) (k : ℕ) (goal : After) (slots room bound : ℕ) where
             }
 
         pub walk-skips : (l : ℕ) (tree″ : List ℕ) → p .cell n k ≡ 4 → l ≡ p .left n → m ≡ p .right n → tree″ ≡ set tree′ (written + 1) (emptied l)
-            → Walking (left - 1) m count (written + 1 + 1) held tree″
+            → Walking left′ m count (written + 1 + 1) held tree″
         unfolding visitOf
         walk-skips l tree″ is skips goes noted′ =
             record {

@@ -2,3 +2,4 @@ pub mod Numbers
 pub mod Machine
 pub mod Ready
 pub mod Reads
+pub mod Steps

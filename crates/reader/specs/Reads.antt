@@ -56,15 +56,10 @@ readOf plan run slots room =
     (bare room (answered LONG 0 0 0)))
     (bare room (answered (planJudged plan .number) (planJudged plan .place) 0 0))
 
--- a call leaves an outcome, and slots that are all zero
-pub record Left (held : List ℕ) (is : Outcome) (answer : Reading) (held-after tree-after : List ℕ) : Type 0 where
-  pub outcome-is : outcome answer tree-after ≡ is
+-- what a call of the reader answers and leaves: the reading's answer and tree, and slots that are all zero
+pub record Reads (plan run held tree : List ℕ) (answer : Reading) (held-after tree-after : List ℕ) : Type 0 where
+  pub outcome-is : outcome answer tree-after ≡ readOf plan run (length held) (length tree)
   pub slots-zero : held-after ≡ zeros (length held)
-
--- what a call of the reader answers and leaves
-abbrev pub Reads : List ℕ → List ℕ → List ℕ → List ℕ → Reading → List ℕ → List ℕ → Type 0
-Reads plan run held tree answer held-after tree-after =
-    Left held (readOf plan run (length held) (length tree)) answer held-after tree-after
 
 -- the answer settled, by the records of a run that was accepted: the tree's rest cleared, or all of it
 unfoldable pub settledOf : Reading → List ℕ → Outcome

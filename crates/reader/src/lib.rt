@@ -7,7 +7,7 @@ ghost use Rattle.plan.specs.Running.{rowFirst};
 ghost use Rattle.plan.specs.Form.{planNodesAt, cellAt, planJudged};
 ghost use Rattle.reader.specs.Machine.{after, ended, answered, lastOf, expectedOf, walkOf, eventOf, finishOf, closeOf, readsOf, told, refusal};
 ghost use Rattle.reader.specs.Ready.{onSlots, Runnable, Ready};
-ghost use Rattle.reader.specs.Reads.{Left, Reads, outcome, bare, runOf, settledOf};
+ghost use Rattle.reader.specs.Reads.{Reads, outcome, bare, settledOf, runOf, readOf};
 use book::DONE;
 use kinds::single;
 use plan::NODES_AT;
@@ -32,6 +32,9 @@ pub const RUNAWAY: u32 = 15;
 
 pub const NO_ROOM: u32 = 16;
 
+// The most events of a run.
+pub const MOST_EVENTS: usize = 65535;
+
 // What is added to a node's number in an empty record.
 pub const EMPTY: usize = 32768;
 
@@ -43,6 +46,7 @@ pub struct Spot {
 }
 
 // What a reading answers.
+#[repr(C)]
 pub struct Reading {
     pub number: u32,
     pub place: u32,
@@ -99,12 +103,12 @@ fn walk(
     requires { ⌜ (Ready (now plan) nodes kinds count written (now held)) × (kind < kinds) × (from < nodes) ⌝ }
     ensures { λ r. ⌜ after r (now (held .exit)) (now (tree .exit)) ≡ walkOf (onSlots (now (plan .entry)) nodes kinds (length (now (held .entry)))) kind nodes from count written (now (held .entry)) (now (tree .entry)) ⌝ }
 {
-    let mut left = nodes;
+    let mut visits = 0;
     let mut node = from;
     let mut parts = count;
     let mut records = written;
-    while 0 < left {
-        left -= 1;
+    while visits < nodes {
+        visits += 1;
         note(tree, records, node);
         records += 1;
         match cell_at(plan, nodes, kinds, node, kind) {
@@ -371,11 +375,10 @@ fn events(
     close(plan, nodes, kinds, at, count, written, held, tree)
 }
 
-// A refusal before any event: both buffers are cleared.
-fn refuse_all(number: u32, place: u32, held: &mut [u16], tree: &mut [u16]) -> Reading
-    ensures { λ r. ⌜ Left (now (held .entry)) (bare (length (now (tree .entry))) (answered number place 0 0)) r (now (held .exit)) (now (tree .exit)) ⌝ }
+// A refusal before any event: the tree is cleared.
+fn refuse_all(number: u32, place: u32, tree: &mut [u16]) -> Reading
+    ensures { λ r. ⌜ outcome r (now (tree .exit)) ≡ bare (length (now (tree .entry))) (answered number place 0 0) ⌝ }
 {
-    clear_records(held);
     clear_records(tree);
     Reading {
         number: number,
@@ -410,29 +413,36 @@ fn settle(answer: Reading, tree: &mut [u16]) -> Reading
 // The run by a plan that is judged done, with a slot at least.
 fn run_plan(plan: &[u8], run: &[u8], held: &mut [u16], tree: &mut [u16]) -> Reading
     requires { ⌜ (planJudged (now plan) .number ≡ 0) × (length (now run) ≤ 65535) × (0 < length (now held)) ⌝ }
-    ensures { λ r. ⌜ Left (now (held .entry)) (runOf (now (plan .entry)) (now (run .entry)) (length (now (held .entry))) (length (now (tree .entry)))) r (now (held .exit)) (now (tree .exit)) ⌝ }
+    ensures { λ r. ⌜ outcome r (now (tree .exit)) ≡ runOf (now (plan .entry)) (now (run .entry)) (length (now (held .entry))) (length (now (tree .entry))) ⌝ }
 {
     let nodes = u16_at(plan, 12) / 6;
     let kinds = u16_at(plan, SETTINGS_AT);
     held[0] = u16_at(plan, SETTINGS_AT + 2) as u16;
-    let answer = events(plan, nodes, kinds, run, held, tree);
-    clear_records(held);
-    settle(answer, tree)
+    settle(events(plan, nodes, kinds, run, held, tree), tree)
 }
 
-// Reads a run by a plan: the answer, with the tree's records in `tree`, and `held` zero.
-pub fn read(plan: &[u8], run: &[u8], held: &mut [u16], tree: &mut [u16]) -> Reading
-    ensures { λ r. ⌜ Reads (now (plan .entry)) (now (run .entry)) (now (held .entry)) (now (tree .entry)) r (now (held .exit)) (now (tree .exit)) ⌝ }
+// The answer, by each test in turn, with the records in the tree.
+fn answer(plan: &[u8], run: &[u8], held: &mut [u16], tree: &mut [u16]) -> Reading
+    ensures { λ r. ⌜ outcome r (now (tree .exit)) ≡ readOf (now (plan .entry)) (now (run .entry)) (length (now (held .entry))) (length (now (tree .entry))) ⌝ }
 {
     let form = judge(plan);
     if form.number != DONE {
-        return refuse_all(form.number, form.place, held, tree);
+        return refuse_all(form.number, form.place, tree);
     }
-    if 65535 < run.len() {
-        return refuse_all(LONG, 0, held, tree);
+    if MOST_EVENTS < run.len() {
+        return refuse_all(LONG, 0, tree);
     }
     if held.len() == 0 {
-        return refuse_all(DEEP, 0, held, tree);
+        return refuse_all(DEEP, 0, tree);
     }
     run_plan(plan, run, held, tree)
+}
+
+// Reads a run by a plan: the answer, with the records in the tree; the slots are zero after every call.
+pub fn read(plan: &[u8], run: &[u8], held: &mut [u16], tree: &mut [u16]) -> Reading
+    ensures { λ r. ⌜ Reads (now (plan .entry)) (now (run .entry)) (now (held .entry)) (now (tree .entry)) r (now (held .exit)) (now (tree .exit)) ⌝ }
+{
+    let reading = answer(plan, run, held, tree);
+    clear_records(held);
+    reading
 }

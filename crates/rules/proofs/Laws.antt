@@ -1,18 +1,21 @@
 -- What a table that has the facts tells: a kind of FIRST or SNF is below the number of kinds, each fact is decided.
 use Prim.Native.Nat.{ℕ, _+_, _*_, _/_, _%_, _^_, _≤_, _<_}
 use mathlib.Core.Path.{_≡_}
+use mathlib.Core.Bool.{true, false≢true, _&&_}
 use mathlib.Core.List.{List}
 use mathlib.Core.Logic.{_↔_}
 use native.Mathlib.Decide.{decLt}
 use native.Mathlib.Omega.{arith}
+use borrow.Author.Tests.{lt-ltb, le-ltb}
+use lib.Dec.{ltb}
 use lib.ListN.{getD}
-use Rattle.kinds.specs.Kinds.{Has}
-use Rattle.kinds.proofs.Laws.{has-dec, beyond}
+use Rattle.kinds.specs.Kinds.{Has, has?}
+use Rattle.kinds.proofs.Laws.{has-dec, has?-is, beyond}
 use Rattle.book.specs.Book.{Proper, token-is}
 use Rattle.book.specs.declared.Node.{Node}
-use Rattle.book.specs.declared.Node.the-variants.{Token}
+use Rattle.book.specs.declared.Node.the-variants.{Fail, Token}
 use Rattle.rules.specs.Rules.{Productive, Nullable, First, Snf, Reach, f-token, f-left, f-right, f-hold, f-skip, f-tagged, f-ref, s-left, s-right, s-first-left, s-first-right, s-then-left, s-then-right, s-tagged, s-ref}
-use Rattle.rules.specs.Facts.{Facts, Marked, Reached}
+use Rattle.rules.specs.Facts.{Facts, firstMark, nullMark, Reached}
 use Rattle.rules.specs.Step.{leftFrom, rightFrom}
 use Rattle.rules.proofs.Reading.{left-below, right-below}
 
@@ -108,3 +111,31 @@ module _ {node : ℕ → Node} {count : ℕ} {table : List ℕ} (facts : Facts n
 pub reach-dec : {node : ℕ → Node} {start count n : ℕ} {marks : List ℕ} → Reached node start count marks → n < count → Dec (Reach node start n)
 reach-dec {n = n} {marks = marks} reached below =
     dec-by (reached .reach-is n below) (dec-by ((λ h. record { mark = h }), (λ h. h .mark)) (has-dec (getD marks (n / 64) 0) (n % 64)))
+
+-- ---- marks by the table
+
+-- a test that holds only below a count decides what holds only below it
+mark-is : {A : Type 0} (count n mask k : ℕ) → (n < count → Has mask k ↔ A) → (count ≤ n → A → ⊥) → ((ltb n count && has? mask k) ≡ true) ↔ A
+mark-is {A} count n mask k inside outside = go (decLt n count)
+  where
+    go : Dec (n < count) → ((ltb n count && has? mask k) ≡ true) ↔ A
+    go (yes below) = rw (lt-ltb n count below) ((λ e. inside below .0 (has?-is mask k .0 e)), (λ a. has?-is mask k .1 (inside below .1 a)))
+    go (no above) = rw (le-ltb n count (omega arith)) ((λ e. absurd (false≢true e)), (λ a. absurd (outside (omega arith) a)))
+
+module _ {node : ℕ → Node} {count : ℕ} {table : List ℕ} (facts : Facts node count table) (beyond-fails : (n : ℕ) → count ≤ n → node n ≡ Fail) where
+  -- the table's mark for a kind is whether it is in FIRST
+  pub first-mark-is : ((i : ℕ) → getD table i 0 < 2 ^ 64) → ((m : ℕ) → m < count → Proper 64 count m (node m))
+      → (n k : ℕ) → (firstMark table count n k ≡ true) ↔ First node (node n) k
+  first-mark-is fits proper n k =
+      mark-is count n (getD table (4 * n + 2) 0) k (λ below. first-iff facts below fits proper k) (λ above d. never (rw (beyond-fails n above) at d))
+    where
+      never : First node Fail k → ⊥
+      never = elim [ ]
+
+  -- the table's mark for the end is whether the node is nullable
+  pub null-mark-is : (n : ℕ) → (nullMark table count n ≡ true) ↔ Nullable node (node n)
+  null-mark-is n =
+      mark-is count n (getD table (4 * n + 1) 0) 0 (λ below. facts .nullable-is n 0 below (omega arith)) (λ above d. never (rw (beyond-fails n above) at d))
+    where
+      never : Nullable node Fail → ⊥
+      never = elim [ ]

@@ -1,5 +1,5 @@
 -- The kind reported at a node: it is the only one, it is told by the facts of the node's left and right, and it is there if there is a conflict.
-use Prim.Native.Nat.{ℕ, _+_, _*_, _/_, _%_, _^_, _≤_, _<_}
+use Prim.Native.Nat.{ℕ, _+_, _/_, _%_, _^_, _≤_, _<_}
 use mathlib.Core.Path.{_≡_, refl, sym, _∙_, subst₂}
 use mathlib.Core.Bool.{Bool, true, false, cond, _&&_, not, true≢false, false≢true}
 use mathlib.Core.List.{List}
@@ -19,7 +19,7 @@ use Rattle.book.specs.declared.Node.the-variants.{Fail, Empty, Token, Either, T
 use Rattle.rules.specs.Rules.{Nullable, First, Snf, Conflict, c-nullable, c-first, c-follow, Reach}
 use Rattle.rules.specs.Facts.{Facts, Marked, Reached}
 use Rattle.rules.specs.Conflicts.{LowestKind, Reported, both-nullable, in-both-first, in-snf-and-first, NO-CONFLICT, BOTH-NULLABLE, ConflictAt, Conflicting, LowestConflict}
-use Rattle.rules.specs.Step.{leftFrom, rightFrom, factsAt, reportedOf}
+use Rattle.rules.specs.Step.{leftFrom, rightFrom, factsAt, EitherReport, reportedOf}
 use Rattle.rules.specs.declared.NodeFacts.{NodeFacts}
 use Rattle.rules.proofs.Reading.{node-is, left-inside, right-inside}
 use Rattle.rules.proofs.Laws.{has-below, first-iff, snf-iff}
@@ -86,6 +86,15 @@ module _ {P Q : ℕ → Type 0} {a b : ℕ} (small : a < 2 ^ 64) (p : (k : ℕ) 
 
 -- ---- by the facts of the left and the right
 
+-- what is answered at an either, as one of two
+pub either-answer : {both shared answer : ℕ} → EitherReport both shared answer
+    → answer ≡ cond (eqb both 0) (lowestKind shared) BOTH-NULLABLE
+either-answer {both} {shared} {answer} report = go (ℕ-discrete both 0)
+  where
+    go : Dec (both ≡ 0) → answer ≡ cond (eqb both 0) (lowestKind shared) BOTH-NULLABLE
+    go (yes e) = rw (eq-eqb _ _ e) (report .first e)
+    go (no f) = rw (ne-eqb _ _ f) (report .nullable f)
+
 -- the facts are those of a node of the book
 record Known (node : ℕ → Node) (n : ℕ) (facts : NodeFacts) : Type 0 where
   nullable-fits : facts .nullable < 2 ^ 64
@@ -108,9 +117,9 @@ table-known facts fits proper {n} below = record {
 }
 
 module _ {node : ℕ → Node} {left right : NodeFacts} where
-  either-report : {l r : ℕ} → Known node l left → Known node r right → ConflictAt node (Either l r) (reportedOf (Either l r) left right)
+  either-right : {l r : ℕ} → Known node l left → Known node r right → ConflictAt node (Either l r) (reportedOf (Either l r) left right)
   unfolding reportedOf
-  either-report {l} {r} p q = go (ℕ-discrete (inBoth (left .nullable) (right .nullable)) 0)
+  either-right {l} {r} p q = go (ℕ-discrete (inBoth (left .nullable) (right .nullable)) 0)
     where
       both : ℕ
       both = inBoth (left .nullable) (right .nullable)
@@ -144,9 +153,9 @@ module _ {node : ℕ → Node} {left right : NodeFacts} where
         none = λ e. absurd (omega arith);
       })
 
-  then-report : {l r : ℕ} → Known node l left → Known node r right → ConflictAt node (Then l r) (reportedOf (Then l r) left right)
+  then-right : {l r : ℕ} → Known node l left → Known node r right → ConflictAt node (Then l r) (reportedOf (Then l r) left right)
   unfolding reportedOf
-  then-report {l} {r} p q = record {
+  then-right {l} {r} p q = record {
     some = λ some. in-snf-and-first (shared-some (p .snf-fits) (p .snf-is) (q .first-is) some);
     none = clear;
   }
@@ -161,8 +170,8 @@ module _ {node : ℕ → Node} {left right : NodeFacts} where
   report-right own Fail p q = record { some = λ some. absurd (some refl); none = λ e. elim [ ] }
   report-right own Empty p q = record { some = λ some. absurd (some refl); none = λ e. elim [ ] }
   report-right own (Token k) p q = record { some = λ some. absurd (some refl); none = λ e. elim [ ] }
-  report-right own (Either l r) p q = either-report p q
-  report-right own (Then l r) p q = then-report p q
+  report-right own (Either l r) p q = either-right p q
+  report-right own (Then l r) p q = then-right p q
   report-right own (Tagged l t) p q = record { some = λ some. absurd (some refl); none = λ e. elim [ ] }
   report-right own (Ref l) p q = record { some = λ some. absurd (some refl); none = λ e. elim [ ] }
 

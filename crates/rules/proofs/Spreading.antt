@@ -1,20 +1,20 @@
 -- Marks that spread from marked nodes to their children: each stands for a reachable node, and where none is new, all of those are marked.
 use Prim.Native.Nat.{ℕ, _+_, _*_, _/_, _%_, _≤_, _<_}
-use mathlib.Core.Path.{_≡_, refl, sym, ap, _∙_, subst}
-use mathlib.Core.Bool.{Bool, true, false, _||_, cond, false≢true}
+use mathlib.Core.Path.{_≡_, refl, sym, _∙_, subst}
+use mathlib.Core.Bool.{Bool, true, false, _||_}
 use mathlib.Core.List.{List}
-use mathlib.Core.Logic.{_↔_, _⊎_, inl, inr, ⊎-elim}
+use mathlib.Core.Logic.{_⊎_, inl, inr, ⊎-elim}
 use native.Mathlib.Omega.{arith}
 use lib.ListN.{length, getD}
-use Rattle.kinds.specs.Kinds.{Has, has?, onlyKind}
+use Rattle.kinds.specs.Kinds.{Has, has?}
 use Rattle.kinds.proofs.Laws.{none, has-single, has?-is}
-use Rattle.book.specs.Book.{Proper, fail-is, empty-is, token-is, either-is, then-is, tagged-is, ref-is}
+use Rattle.book.specs.Book.{Proper}
 use Rattle.book.specs.Decode.{nodeAt, nodes, GoodNodes}
 use Rattle.book.specs.declared.Node.{Node}
 use Rattle.book.specs.declared.Node.the-variants.{Fail, Empty, Token, Either, Then, Tagged, Ref}
 use Rattle.rules.specs.Rules.{Child, either-left, either-right, then-left, then-right, tagged-left, ref-left, Reach, r-start, r-child}
 use Rattle.rules.specs.Facts.{Marked, Reached}
-use Rattle.rules.specs.Growth.{Sound, Blank, Joined, Grown, Visited, Turned}
+use Rattle.rules.specs.Growth.{Sound, Blank, Joined, Grown, Turned}
 use Rattle.rules.specs.Step.{leftFrom, rightFrom, markOf, ReachAt, ChildClosed, Spread}
 use Rattle.rules.proofs.Growing.{or-false, grown-then, grown-sound, blank-sound, joined-grown, joined-has, joined-held}
 use Rattle.rules.proofs.Reading.{left-below, right-below, node-is, left-inside, right-inside}

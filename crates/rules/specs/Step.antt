@@ -1,6 +1,7 @@
 -- The rules as a step: what a table's facts of its left and right give a node, and what a mark gives its children.
 use Prim.Native.Nat.{ℕ, zero, suc, _+_, _*_, _/_, _%_, _<_}
 use mathlib.Core.Path.{_≡_}
+use mathlib.Core.Logic.{_≢_}
 use mathlib.Core.Bool.{Bool, cond}
 use mathlib.Core.List.{List}
 use lib.Dec.{eqb}
@@ -53,23 +54,31 @@ factsAt table n = record {
   snf = getD table (4 * n + 3) 0;
 }
 
--- what the rules give a node by the facts of its left and right
-unfoldable pub ruledOf : Node → NodeFacts → NodeFacts → NodeFacts
-ruledOf Fail left right = record { productive = 0; nullable = 0; first = 0; snf = 0 }
-ruledOf Empty left right = record { productive = everyKind; nullable = everyKind; first = 0; snf = 0 }
-ruledOf (Token k) left right = record { productive = everyKind; nullable = 0; first = onlyKind k; snf = 0 }
-ruledOf (Either l r) left right = record {
+-- what the rules give an either by the facts of its left and right
+abbrev pub eitherFacts : NodeFacts → NodeFacts → NodeFacts
+eitherFacts left right = record {
   productive = joined (left .productive) (right .productive);
   nullable = joined (left .nullable) (right .nullable);
   first = joined (left .first) (right .first);
   snf = joined (joined (joined (left .snf) (right .snf)) (inBoth (left .first) (right .nullable))) (inBoth (left .nullable) (right .first));
 }
-ruledOf (Then l r) left right = record {
+
+-- what the rules give a then by the facts of its left and right
+abbrev pub thenFacts : NodeFacts → NodeFacts → NodeFacts
+thenFacts left right = record {
   productive = inBoth (left .productive) (right .productive);
   nullable = inBoth (left .nullable) (right .nullable);
   first = joined (inBoth (left .first) (right .productive)) (inBoth (left .nullable) (right .first));
   snf = joined (inBoth (left .snf) (right .nullable)) (inBoth (left .productive) (right .snf));
 }
+
+-- what the rules give a node by the facts of its left and right
+unfoldable pub ruledOf : Node → NodeFacts → NodeFacts → NodeFacts
+ruledOf Fail left right = record { productive = 0; nullable = 0; first = 0; snf = 0 }
+ruledOf Empty left right = record { productive = everyKind; nullable = everyKind; first = 0; snf = 0 }
+ruledOf (Token k) left right = record { productive = everyKind; nullable = 0; first = onlyKind k; snf = 0 }
+ruledOf (Either l r) left right = eitherFacts left right
+ruledOf (Then l r) left right = thenFacts left right
 ruledOf (Tagged l t) left right = left
 ruledOf (Ref l) left right = left
 
@@ -103,6 +112,11 @@ pub record Holds (facts : NodeFacts) (table : List ℕ) (n : ℕ) : Type 0 where
 abbrev pub RuleClosed : (ℕ → Node) → List ℕ → ℕ → Type 0
 RuleClosed node table n =
     Holds (ruledOf (node n) (factsAt table (leftFrom n (node n))) (factsAt table (rightFrom n (node n)))) table n
+
+-- what is answered at an either: that both sides are nullable, before the lowest kind shared
+pub record EitherReport (both shared answer : ℕ) : Type 0 where
+  pub nullable : both ≢ 0 → answer ≡ BOTH-NULLABLE
+  pub first : both ≡ 0 → answer ≡ lowestKind shared
 
 -- what is reported at a node by the facts of its left and right
 unfoldable pub reportedOf : Node → NodeFacts → NodeFacts → ℕ

@@ -7,7 +7,7 @@ ghost use Rattle.book.specs.Decode.{nodes, GoodNodes};
 ghost use Rattle.rules.specs.Facts.{Facts, Reached, Marked};
 ghost use Rattle.rules.specs.Conflicts.{ConflictAt, Conflicting, LowestConflict};
 ghost use Rattle.rules.specs.Growth.{Sound, Blank, Joined, Grown, Visited, Turned, visitedAt};
-ghost use Rattle.rules.specs.Step.{leftFrom, rightFrom, kindOf, factsAt, ruledOf, reportedOf, FactAt, Given, Holds, RuleClosed, Spread, SpreadAll, markOf};
+ghost use Rattle.rules.specs.Step.{leftFrom, rightFrom, kindOf, factsAt, eitherFacts, thenFacts, ruledOf, EitherReport, reportedOf, FactAt, Given, Holds, RuleClosed, Spread, SpreadAll, markOf};
 use book::Node;
 
 // What is answered for a node without a conflict.
@@ -68,6 +68,30 @@ pub fn facts_at(table: &[u64], n: usize) -> NodeFacts
     }
 }
 
+// What the rules give an either by the facts of its left and right.
+fn either_facts(left: NodeFacts, right: NodeFacts) -> NodeFacts
+    ensures { λ r. ⌜ r ≡ eitherFacts left right ⌝ }
+{
+    NodeFacts {
+        productive: left.productive | right.productive,
+        nullable: left.nullable | right.nullable,
+        first: left.first | right.first,
+        snf: left.snf | right.snf | left.first & right.nullable | left.nullable & right.first,
+    }
+}
+
+// What the rules give a then by the facts of its left and right.
+fn then_facts(left: NodeFacts, right: NodeFacts) -> NodeFacts
+    ensures { λ r. ⌜ r ≡ thenFacts left right ⌝ }
+{
+    NodeFacts {
+        productive: left.productive & right.productive,
+        nullable: left.nullable & right.nullable,
+        first: left.first & right.productive | left.nullable & right.first,
+        snf: left.snf & right.nullable | left.productive & right.snf,
+    }
+}
+
 // What the rules give a node by the facts of its left and right.
 fn ruled(node: Node, left: NodeFacts, right: NodeFacts) -> NodeFacts
     requires { ⌜ kindOf node < 64 ⌝ }
@@ -92,18 +116,8 @@ fn ruled(node: Node, left: NodeFacts, right: NodeFacts) -> NodeFacts
             first: kinds::single(k),
             snf: 0,
         },
-        Node::Either(_, _) => NodeFacts {
-            productive: left.productive | right.productive,
-            nullable: left.nullable | right.nullable,
-            first: left.first | right.first,
-            snf: left.snf | right.snf | left.first & right.nullable | left.nullable & right.first,
-        },
-        Node::Then(_, _) => NodeFacts {
-            productive: left.productive & right.productive,
-            nullable: left.nullable & right.nullable,
-            first: left.first & right.productive | left.nullable & right.first,
-            snf: left.snf & right.nullable | left.productive & right.snf,
-        },
+        Node::Either(_, _) => either_facts(left, right),
+        Node::Then(_, _) => then_facts(left, right),
         Node::Tagged(_, _) => left,
         Node::Ref(_) => left,
     }
@@ -244,6 +258,17 @@ pub fn reach(book: &[u8], base: usize, count: usize, start: usize, marks: &mut [
     while spread_all(book, base, count, marks) {}
 }
 
+// What is reported at an either, where both sides are nullable before the lowest kind shared.
+fn either_report(both: u64, shared: u64) -> usize
+    ensures { λ r. ⌜ EitherReport both shared r ⌝ }
+{
+    if both == 0 {
+        kinds::lowest(shared)
+    } else {
+        BOTH_NULLABLE
+    }
+}
+
 // What is reported at a node by the facts of its left and right.
 fn reported(node: Node, left: NodeFacts, right: NodeFacts) -> usize
     ensures { λ r. ⌜ r ≡ reportedOf node left right ⌝ }
@@ -253,12 +278,7 @@ fn reported(node: Node, left: NodeFacts, right: NodeFacts) -> usize
         Node::Empty => NO_CONFLICT,
         Node::Token(_) => NO_CONFLICT,
         Node::Either(_, _) => {
-            let both = left.nullable & right.nullable;
-            if both == 0 {
-                kinds::lowest(left.first & right.first)
-            } else {
-                BOTH_NULLABLE
-            }
+            either_report(left.nullable & right.nullable, left.first & right.first)
         }
         Node::Then(_, _) => kinds::lowest(left.snf & right.first),
         Node::Tagged(_, _) => NO_CONFLICT,

@@ -17,12 +17,26 @@ u16-at-requires : tie.Need-u16-at-requires
 u16-at-requires c κs = omega (arith, formed-long (c .before .before .before .before .pre .0))
 
 least-facts-requires : tie.Need-least-facts-requires
-least-facts-requires c κs = let known = c .before .before .before .before .before .before .pre .0 in
-    (nodes-good known (c .before .before .count-of .ensures ∙ book-count _), blank-less {least = 2048} (omega (arith, formed-few known (c .before .before .count-of .ensures))) (c .before .before .before .before .before .before .pre .1 .0))
+least-facts-requires c κs =
+    let entry = c .before .before .before .before .before .before in
+    let counted = c .before .before .count-of .ensures in (
+      nodes-good (entry .pre .0) (counted ∙ book-count _),
+      blank-less {least = 2048} (omega (arith, formed-few (entry .pre .0) counted)) (entry .pre .1 .0),
+    )
 
 judge-requires : tie.Need-judge-requires
-judge-requires c κs = let known = c .before .before .before .before .before .before .before .before .before .before .before .pre .0 in
-    (record { good = known; count-is = c .before .before .before .before .before .before .before .count-of .ensures ∙ book-count _; start-is = c .before .before .before .before .before .before .u16-at .ensures .0 ∙ book-start _; long = omega (arith, formed-few known (c .before .before .before .before .before .before .before .count-of .ensures), c .before .before .before .before .before .before .before .before .before .before .before .pre .1 .0 .long, c .before .before .before .before .least-facts .kept); facts = c .before .before .before .before .least-facts .ensures }, c .before .before .before .before .before .before .before .before .before .before .before .pre .1 .1)
+judge-requires c κs =
+    let filled = c .before .before .before .before in
+    let entry = filled .before .before .before .before .before .before .before in
+    let counted = filled .before .before .before .count-of .ensures in (
+      record {
+        good = entry .pre .0;
+        count-is = counted ∙ book-count _;
+        long = omega (arith, formed-few (entry .pre .0) counted, entry .pre .1 .0 .long, filled .least-facts .kept);
+        facts = filled .least-facts .ensures;
+      },
+      (filled .before .before .u16-at .ensures .0 ∙ book-start _, entry .pre .1 .1),
+    )
 
 same-length : tie.Need-same-length
 same-length c = search needs

@@ -10,27 +10,50 @@ u16-at-requires : tie.Need-u16-at-requires
 u16-at-requires c κs = omega (arith, formed-long ((c .before .before .before .pre .0) .good))
 
 plan-size-requires : tie.Need-plan-size-requires
-plan-size-requires c κs = let known = c .before .before .before .before .pre .0 in
+plan-size-requires c κs =
+    let known = c .before .before .before .before .pre .0 in
     (count-small known, kinds-small known (c .u16-at .ensures .0))
 
-cast-t10 : tie.Need-cast-t10
-cast-t10 c = search needs
+answered-requires : tie.Need-answered-requires
+answered-requires c κs = search needs
 
 returns : tie.Need-returns
-returns c = answered-no-room (c .before .before .before .before .before .before .pre .0) (c .before .before .u16-at .ensures .0) (c .before .plan-size .ensures .0) (c .before .before .before .before .before .before .pre .1 .1) (c .before .before .before .before .before .before .pre .1 .0 .zero-all) (c .if1 .taken)
+returns c =
+    let entry = c .before .before .before .before .before .before .before in
+    rw (c .answered .ensures)
+    (answered-no-room (entry .pre .0) (c .before .before .before .u16-at .ensures .0) (c .before .before .plan-size .ensures .0) (entry .pre .1 .1)
+    (entry .pre .1 .0 .zero-all)
+    (c .before .if1 .taken))
 
 write-plan-requires : tie.Need-write-plan-requires
-write-plan-requires c κs = let known = c .before .before .before .before .before .before .before .pre .0 in
-    record { form = known .good .is-done; count-is = known .count-is ∙ sym (book-count _); kinds-is = c .before .before .before .u16-at .ensures .0; table-long = known .long; plan-long = omega (arith, c .before .before .plan-size .ensures .0, c .before .if1 .left) }
+write-plan-requires c κs =
+    let tested = c .before in
+    let known = tested .before .before .before .before .before .before .pre .0 in
+    record {
+      form = known .good .is-done;
+      count-is = known .count-is ∙ sym (book-count _);
+      kinds-is = tested .before .before .u16-at .ensures .0;
+      table-long = known .long;
+      plan-long = omega (arith, tested .before .plan-size .ensures .0, tested .if1 .left);
+    }
 
-cast-t14 : tie.Need-cast-t14
-cast-t14 c = search needs
+answered-requires-2 : tie.Need-answered-requires-2
+answered-requires-2 c κs = search needs
 
 same-length : tie.Need-same-length
 same-length c = search needs
 
 returns-2 : tie.Need-returns-2
-returns-2 c = answered-done (c .before .before .before .before .before .before .before .before .before .before .pre .0) (c .before .before .before .before .before .before .u16-at .ensures .0) (c .before .before .before .before .before .plan-size .ensures .0) (c .before .before .before .before .before .before .before .before .before .before .pre .1 .1) (λ i. c .before .before .before .before .before .before .before .before .shared-slice-known2 .given i .fits) (c .before .before .before .before .if1 .left) (c .before .before .write-plan .ensures)
+returns-2 c =
+    let tested = c .before .before .before .before .before in
+    let entry = tested .before .before .before .before .before .before in
+    let wide = tested .before .before .before .before .shared-slice-known2 .given in
+    rw (c .answered2 .ensures)
+    (answered-done (entry .pre .0) (tested .before .before .u16-at .ensures .0) (tested .before .plan-size .ensures .0)
+    (entry .pre .1 .1)
+    (λ i. wide i .fits)
+    (tested .if1 .left)
+    (c .before .before .before .write-plan .ensures))
 
 pub finish-spec : {M : Type 1} → statement M
 finish-spec =
@@ -38,9 +61,9 @@ finish-spec =
     (tie.spec
     u16-at-requires
     plan-size-requires
-    cast-t10
+    answered-requires
     returns
     write-plan-requires
-    cast-t14
+    answered-requires-2
     same-length
     returns-2)

@@ -6,12 +6,19 @@ use Rattle.compiler.proofs.lowest_conflict.Statement.{statement}
 use Rattle.compiler.proofs.lowest_conflict.Tie as tie
 
 reach-requires : tie.Need-reach-requires
-reach-requires c κs = let known = c .before .before .before .before .pre .0 in
-    (nodes-good (known .good) (known .count-is), (start-below known, (c .before .before .before .before .pre .1)))
+reach-requires c κs =
+    let entry = c .before .before .before .before in
+    let known = entry .pre .0 in
+    (nodes-good (known .good) (known .count-is), (start-below known (entry .pre .1 .0), entry .pre .1 .1))
 
 lowest-conflict-requires : tie.Need-lowest-conflict-requires
-lowest-conflict-requires c κs = let known = c .before .before .before .before .before .before .before .before .pre .0 in
-    (nodes-good (known .good) (known .count-is), (known .long, (known .facts, omega (arith, (c .before .before .before .before .before .before .before .before .pre .1) .long, c .before .before .before .reach .kept))))
+lowest-conflict-requires c κs =
+    let marked = c .before .before .before in
+    let entry = marked .before .before .before .before .before in
+    let known = entry .pre .0 in (
+      nodes-good (known .good) (known .count-is),
+      (known .long, (known .facts, omega (arith, entry .pre .1 .1 .long, marked .reach .kept))),
+    )
 
 same-length : tie.Need-same-length
 same-length c = search needs

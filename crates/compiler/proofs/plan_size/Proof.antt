@@ -21,7 +21,7 @@ add-result-3 : tie.Need-add-result-3
 add-result-3 c = record { fits = omega (arith, size-small (c .args .count) (c .args .kinds) (c .pre .0) (c .pre .1)) }
 
 returns : tie.Need-returns
-returns c = (omega arith, omega (arith, size-small (c .args .count) (c .args .kinds) (c .pre .0) (c .pre .1)))
+returns c = omega (arith, size-small (c .args .count) (c .args .kinds) (c .pre .0) (c .pre .1))
 
 pub plan-size-spec : {M : Type 1} → statement M
 plan-size-spec =

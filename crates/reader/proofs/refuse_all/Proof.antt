@@ -11,23 +11,12 @@ use Rattle.reader.proofs.refuse_all.Tie as tie
 clear-records-requires : tie.Need-clear-records-requires
 clear-records-requires c κs = search needs
 
-clear-records-requires-2 : tie.Need-clear-records-requires-2
-clear-records-requires-2 c κs = search needs
-
 same-length : tie.Need-same-length
 same-length c = search needs
 
-same-length-2 : tie.Need-same-length-2
-same-length-2 c = search needs
-
 returns : tie.Need-returns
 returns c =
-    record {
-      outcome-is = ap (λ (l : List ℕ). outcome (answered (c .before .before .before .before .before .before .before .before .before .before .args .number) (c .before .before .before .before .before .before .before .before .before .before .args .place) 0 0) l) (c .before .before .clear-records2 .ensures);
-      slots-zero = c .before .before .before .before .before .before .clear-records .ensures;
-    }
+    ap (λ (l : List ℕ). outcome (answered (c .before .before .before .before .before .args .number) (c .before .before .before .before .before .args .place) 0 0) l) (c .before .before .clear-records .ensures)
 
 pub refuse-all-spec : {M : Type 1} → statement M
-refuse-all-spec =
-    tie.close
-    (tie.spec clear-records-requires clear-records-requires-2 same-length same-length-2 returns)
+refuse-all-spec = tie.close (tie.spec clear-records-requires same-length returns)

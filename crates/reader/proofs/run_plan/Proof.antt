@@ -5,7 +5,6 @@ use native.Mathlib.Omega.{arith}
 use borrow.Author.Needs.{needs}
 use lib.Dec.{ltb}
 use lib.ListN.{length, set, length-set}
-use Rattle.words.specs.Words.{zeros}
 use Rattle.plan.specs.Form.{planOf, planCount, planKinds, planStart}
 use Rattle.reader.specs.Machine.{ended, readsOf}
 use Rattle.reader.proofs.Plans.{runnable}
@@ -61,30 +60,23 @@ events-requires c κs =
       pre .1,
     )
 
-clear-records-requires : tie.Need-clear-records-requires
-clear-records-requires c κs = search needs
-
 settle-requires : tie.Need-settle-requires
 settle-requires c κs = search needs
 
 same-length : tie.Need-same-length
-same-length c = c .before .before .before .before .before .before .clear-records .kept .0 ∙ held-kept (c .before .before .before .before .before .before .before .before .before .before .before .before)
+same-length c = held-kept (c .before .before .before .before .before .before .before .before)
 
 same-length-2 : tie.Need-same-length-2
 same-length-2 c = search needs
 
 returns : tie.Need-returns
 returns c =
-    let args = c .before .before .before .before .before .before .before .before .before .before .before .before .before .before .before .before .before .before .before .before .before .before .args in
-    let pre = c .before .before .before .before .before .before .before .before .before .before .before .before .before .before .before .before .before .before .before .before .before .before .pre in
-    let v = c .before .before .before .before .before .before .before .before .before .before .before .before in
-    record {
-      outcome-is =
-          c .before .before .settle .ensures
-          ∙ run-same (args .plan .now) (args .run .now) (args .held .now) (args .tree .now) (pre .0) (pre .2)
-          (ended (v .events .result) (v .events .last .1 .1 .1 .1 .0) (v .events .last .1 .1 .1 .1 .1 .0)) (ended-is v) (v .events .kept .1 .1 .1 .1 .1 .0);
-      slots-zero = c .before .before .before .before .before .before .clear-records .ensures ∙ ap zeros (held-kept v);
-    }
+    let args = c .before .before .before .before .before .before .before .before .before .before .before .before .before .before .before .before .before .before .args in
+    let pre = c .before .before .before .before .before .before .before .before .before .before .before .before .before .before .before .before .before .before .pre in
+    let v = c .before .before .before .before .before .before .before .before in
+    c .before .before .settle .ensures
+    ∙ run-same (args .plan .now) (args .run .now) (args .held .now) (args .tree .now) (pre .0) (pre .2)
+    (ended (v .events .result) (v .events .last .1 .1 .1 .1 .0) (v .events .last .1 .1 .1 .1 .1 .0)) (ended-is v) (v .events .kept .1 .1 .1 .1 .1 .0)
 
 pub run-plan-spec : {M : Type 1} → statement M
 run-plan-spec =
@@ -97,7 +89,6 @@ run-plan-spec =
     cast-held
     slice-write-held
     events-requires
-    clear-records-requires
     settle-requires
     same-length
     same-length-2

@@ -1,7 +1,8 @@
 -- `reader::walk` meets its contract. The loop's invariant: what is left of the walk comes to the whole walk's end, and the state is sound. The
 -- measure is the visits left.
 use mathlib.Core.Path.{_≡_, refl, sym, ap, _∙_}
-use Prim.Native.Nat.{ℕ, _+_, _*_, _≤_, _<_}
+use Prim.Native.Nat.{ℕ, suc, _+_, _*_, _-_, _≤_, _<_}
+use native.Mathlib.Nat.{sub-zero}
 use native.Mathlib.Omega.{arith}
 use lib.ListN.{length, set}
 use borrow.Author.Needs.{needs}
@@ -17,21 +18,21 @@ use Rattle.reader.proofs.walk.Statement.{statement}
 use Rattle.reader.proofs.walk.Tie as tie
 
 abbrev Inv-loop : tie.InvT-loop
-Inv-loop plan nodes kinds kind from count written held₀ tree₀ left₀ node₀ parts₀ records₀ held tree left node parts records =
+Inv-loop plan nodes kinds kind from count written held₀ tree₀ visits₀ node₀ parts₀ records₀ held tree visits node parts records =
     Walking (onSlots plan nodes kinds (length held₀)) kind
     (walkOf (onSlots plan nodes kinds (length held₀)) kind nodes from count written held₀ tree₀)
-    (length held₀) (length tree₀) (written + count + 2 * nodes) left node parts records held tree
+    (length held₀) (length tree₀) (written + count + 2 * nodes) (nodes - visits) node parts records held tree
 
 abbrev μ-loop : tie.MeasureT-loop
-μ-loop plan nodes kinds kind from count written held₀ tree₀ left₀ node₀ parts₀ records₀ held tree left node parts records =
-    left
+μ-loop plan nodes kinds kind from count written held₀ tree₀ visits₀ node₀ parts₀ records₀ held tree visits node parts records =
+    nodes - visits
 
 loop-holds : tie.Need-loop-holds Inv-loop μ-loop
 unfolding planFrom
 loop-holds c =
     let pre = c .before .before .before .pre in
     record {
-      rest = refl;
+      rest = rw sub-zero refl;
       node-below = pre .2;
       few = pre .0 .parts .few;
       held-long = refl;
@@ -48,6 +49,11 @@ Visited = tie.After-cell-at Inv-loop μ-loop
 -- the loop's head of a visit
 abbrev head : Visited → At
 head v = v .before .before .before .before .before .before
+
+-- a visit is left, and then one fewer
+one-more : (l : tie.In-loop Inv-loop μ-loop)
+    → l .before .before .before .before .before .args .nodes - l .before .loop .visits ≡ suc (l .before .before .before .before .before .args .nodes - (l .before .loop .visits + 1))
+one-more l = omega (arith, l .loop-test .taken)
 
 -- the node of a turn is one of the plan's
 node-below : (l : At) → l .loop .node < l .before .before .before .before .args .nodes
@@ -97,8 +103,8 @@ unfolding planFrom
 right-small v high =
     omega (arith, right-of v high, bounded (head v) .right-below (head v .loop .node), head v .before .before .before .before .pre .0 .runs .few-nodes)
 
-sub-left : tie.Need-sub-left Inv-loop μ-loop
-sub-left c = search needs
+add-visits : tie.Need-add-visits Inv-loop μ-loop
+add-visits c = search needs
 
 note-requires : tie.Need-note-requires Inv-loop μ-loop
 note-requires c κs = omega (arith, node-inside (c .before .before) .1)
@@ -116,7 +122,7 @@ same-length-2 : tie.Need-same-length-2 Inv-loop μ-loop
 same-length-2 c = c .before .before .before .before .note .kept .0 ∙ c .before .before .before .before .before .before .before .loop .inv .tree-long
 
 returns : tie.Need-returns Inv-loop μ-loop
-returns c = walk-takes _ _ _ _ _ _ (c .before .before .before .before .before .before .before .loop .inv) (c .before .before .before .before .before .before .loop-test .taken) _ (c .before .before .before .before .note .ensures) (cell-is (c .before) ∙ c .match .keys1)
+returns c = walk-takes _ _ _ _ _ _ (c .before .before .before .before .before .before .before .loop .inv) _ (one-more (c .before .before .before .before .before .before)) _ (c .before .before .before .before .note .ensures) (cell-is (c .before) ∙ c .match .keys1)
 
 left-at-requires : tie.Need-left-at-requires Inv-loop μ-loop
 left-at-requires c κs = node-inside (c .before .before .before .before .before .before .before)
@@ -125,7 +131,7 @@ loop-less : tie.Need-loop-less Inv-loop μ-loop
 loop-less c = omega (arith, c .before .before .before .before .before .before .before .loop-test .taken)
 
 loop-again : tie.Need-loop-again Inv-loop μ-loop
-loop-again c = walk-left _ _ _ _ _ _ (c .before .before .before .before .before .before .before .before .loop .inv) (c .before .before .before .before .before .before .before .loop-test .taken) _ (c .before .before .before .before .before .note .ensures) (bounded (c .before .before .before .before .before .before .before .before)) _
+loop-again c = walk-left _ _ _ _ _ _ (c .before .before .before .before .before .before .before .before .loop .inv) _ (one-more (c .before .before .before .before .before .before .before)) _ (c .before .before .before .before .before .note .ensures) (bounded (c .before .before .before .before .before .before .before .before)) _
     (cell-is (c .before .before) ∙ c .before .match .keys2)
     (c .left-at .ensures ∙ left-of (c .before .before) (omega (arith, c .before .match .keys2)))
 
@@ -136,7 +142,7 @@ same-length-4 : tie.Need-same-length-4 Inv-loop μ-loop
 same-length-4 c = c .before .before .before .before .before .note .kept .0 ∙ c .before .before .before .before .before .before .before .before .loop .inv .tree-long
 
 returns-2 : tie.Need-returns-2 Inv-loop μ-loop
-returns-2 c = walk-deep _ _ _ _ _ _ (c .before .before .before .before .before .before .before .before .loop .inv) (c .before .before .before .before .before .before .before .loop-test .taken) _ (c .before .before .before .before .before .note .ensures) (cell-is (c .before .before) ∙ c .before .match .keys3) (c .if1 .taken)
+returns-2 c = walk-deep _ _ _ _ _ _ (c .before .before .before .before .before .before .before .before .loop .inv) _ (one-more (c .before .before .before .before .before .before .before)) _ (c .before .before .before .before .before .note .ensures) (cell-is (c .before .before) ∙ c .before .match .keys3) (c .if1 .taken)
 
 right-at-requires : tie.Need-right-at-requires Inv-loop μ-loop
 right-at-requires c κs = node-inside (c .before .before .before .before .before .before .before .before)
@@ -160,7 +166,7 @@ loop-less-2 : tie.Need-loop-less-2 Inv-loop μ-loop
 loop-less-2 c = omega (arith, c .before .before .before .before .before .before .before .before .before .loop-test .taken)
 
 loop-again-2 : tie.Need-loop-again-2 Inv-loop μ-loop
-loop-again-2 c = walk-holds _ _ _ _ _ _ (c .before .before .before .before .before .before .before .before .before .before .loop .inv) (c .before .before .before .before .before .before .before .before .before .loop-test .taken) _ (c .before .before .before .before .before .before .before .note .ensures) (bounded (c .before .before .before .before .before .before .before .before .before .before)) _ _
+loop-again-2 c = walk-holds _ _ _ _ _ _ (c .before .before .before .before .before .before .before .before .before .before .loop .inv) _ (one-more (c .before .before .before .before .before .before .before .before .before)) _ (c .before .before .before .before .before .before .before .note .ensures) (bounded (c .before .before .before .before .before .before .before .before .before .before)) _ _
     (cell-is (c .before .before .before .before) ∙ c .before .before .before .match .keys3) (c .before .before .if1 .left)
     (c .left-at2 .ensures ∙ left-of (c .before .before .before .before) (omega (arith, c .before .before .before .match .keys3)))
     (c .before .right-at .ensures ∙ right-of (c .before .before .before .before) (omega (arith, c .before .before .before .match .keys3)))
@@ -184,7 +190,7 @@ loop-less-3 : tie.Need-loop-less-3 Inv-loop μ-loop
 loop-less-3 c = omega (arith, c .before .before .before .before .before .before .before .before .before .before .before .before .loop-test .taken)
 
 loop-again-3 : tie.Need-loop-again-3 Inv-loop μ-loop
-loop-again-3 c = walk-skips _ _ _ _ _ _ (c .before .before .before .before .before .before .before .before .before .before .before .before .before .loop .inv) (c .before .before .before .before .before .before .before .before .before .before .before .before .loop-test .taken) _ (c .before .before .before .before .before .before .before .before .before .before .note .ensures) (bounded (c .before .before .before .before .before .before .before .before .before .before .before .before .before)) _ _ _
+loop-again-3 c = walk-skips _ _ _ _ _ _ (c .before .before .before .before .before .before .before .before .before .before .before .before .before .loop .inv) _ (one-more (c .before .before .before .before .before .before .before .before .before .before .before .before)) _ (c .before .before .before .before .before .before .before .before .before .before .note .ensures) (bounded (c .before .before .before .before .before .before .before .before .before .before .before .before .before)) _ _ _
     (cell-is (c .before .before .before .before .before .before .before) ∙ c .before .before .before .before .before .before .match .keys4)
     (c .before .before .before .before .left-at3 .ensures ∙ left-of (c .before .before .before .before .before .before .before) (omega (arith, c .before .before .before .before .before .before .match .keys4)))
     (c .right-at2 .ensures ∙ right-of (c .before .before .before .before .before .before .before) (omega (arith, c .before .before .before .before .before .before .match .keys4)))
@@ -197,7 +203,7 @@ loop-less-4 : tie.Need-loop-less-4 Inv-loop μ-loop
 loop-less-4 c = omega (arith, c .before .before .before .before .before .before .before .loop-test .taken)
 
 loop-again-4 : tie.Need-loop-again-4 Inv-loop μ-loop
-loop-again-4 c = walk-right _ _ _ _ _ _ (c .before .before .before .before .before .before .before .before .loop .inv) (c .before .before .before .before .before .before .before .loop-test .taken) _ (c .before .before .before .before .before .note .ensures) (bounded (c .before .before .before .before .before .before .before .before)) _
+loop-again-4 c = walk-right _ _ _ _ _ _ (c .before .before .before .before .before .before .before .before .loop .inv) _ (one-more (c .before .before .before .before .before .before .before)) _ (c .before .before .before .before .before .note .ensures) (bounded (c .before .before .before .before .before .before .before .before)) _
     (cell-is (c .before .before) ∙ c .before .match .keys5)
     (c .right-at3 .ensures ∙ right-of (c .before .before) (omega (arith, c .before .match .keys5)))
 
@@ -208,7 +214,7 @@ same-length-6 : tie.Need-same-length-6 Inv-loop μ-loop
 same-length-6 c = c .before .before .before .before .note .kept .0 ∙ c .before .before .before .before .before .before .before .loop .inv .tree-long
 
 returns-3 : tie.Need-returns-3 Inv-loop μ-loop
-returns-3 c = walk-refuses _ _ _ _ _ _ (c .before .before .before .before .before .before .before .loop .inv) (c .before .before .before .before .before .before .loop-test .taken) _ (c .before .before .before .before .note .ensures) (rw (cell-is (c .before)) (c .match .rest))
+returns-3 c = walk-refuses _ _ _ _ _ _ (c .before .before .before .before .before .before .before .loop .inv) _ (one-more (c .before .before .before .before .before .before)) _ (c .before .before .before .before .note .ensures) (rw (cell-is (c .before)) (c .match .rest))
 
 same-length-7 : tie.Need-same-length-7 Inv-loop μ-loop
 same-length-7 c = c .before .loop .inv .held-long
@@ -217,7 +223,7 @@ same-length-8 : tie.Need-same-length-8 Inv-loop μ-loop
 same-length-8 c = c .before .loop .inv .tree-long
 
 returns-4 : tie.Need-returns-4 Inv-loop μ-loop
-returns-4 c = walk-ends _ _ _ _ _ _ (c .before .loop .inv) (c .loop-test .left)
+returns-4 c = walk-ends _ _ _ _ _ _ (c .before .loop .inv) (omega (arith, c .loop-test .left))
 
 pub walk-spec : {M : Type 1} → statement M
 walk-spec =
@@ -226,7 +232,7 @@ walk-spec =
     Inv-loop
     μ-loop
     loop-holds
-    sub-left
+    add-visits
     note-requires
     add-records
     cell-at-requires

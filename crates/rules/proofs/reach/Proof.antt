@@ -4,7 +4,6 @@ use mathlib.Core.Path.{_∙_}
 use native.Mathlib.Omega.{arith}
 use lib.ListN.{length}
 use Rattle.book.specs.Decode.{nodes}
-use Rattle.rules.specs.Facts.{Marked}
 use Rattle.rules.specs.Step.{ReachAt}
 use Rattle.rules.proofs.Growing.{Settling, settling-none, settling-more, settling-less, roomLeft}
 use Rattle.rules.proofs.Spreading.{start-sound, start-marked, turned-reached}

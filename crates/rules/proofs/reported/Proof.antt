@@ -1,8 +1,8 @@
 -- `rules::reported` meets its contract: an arm for each type of the table.
 use mathlib.Core.Path.{refl}
 use borrow.Author.Needs.{needs}
-use borrow.Author.Tests.{eq-eqb, ne-eqb}
 use Rattle.rules.specs.Step.{reportedOf}
+use Rattle.rules.proofs.Reports.{either-answer}
 use Rattle.rules.proofs.reported.Statement.{statement}
 use Rattle.rules.proofs.reported.Tie as tie
 
@@ -18,14 +18,14 @@ enum-told-3 c = search needs
 enum-told-4 : tie.Need-enum-told-4
 enum-told-4 c = search needs
 
-lowest-requires : tie.Need-lowest-requires
-lowest-requires c κs = search needs
+either-report-requires : tie.Need-either-report-requires
+either-report-requires c κs = search needs
 
 enum-told-5 : tie.Need-enum-told-5
 enum-told-5 c = search needs
 
-lowest-requires-2 : tie.Need-lowest-requires-2
-lowest-requires-2 c κs = search needs
+lowest-requires : tie.Need-lowest-requires
+lowest-requires c κs = search needs
 
 enum-told-6 : tie.Need-enum-told-6
 enum-told-6 c = search needs
@@ -47,23 +47,19 @@ returns-3 c = rw (c .enum-told3 .given .1) refl
 
 returns-4 : tie.Need-returns-4
 unfolding reportedOf
-returns-4 c = rw (c .before .before .before .before .before .before .enum-told4 .given .1, eq-eqb _ _ (c .before .before .before .if1 .taken)) (c .lowest .ensures)
+returns-4 c = rw (c .before .before .before .before .before .enum-told4 .given .1) (either-answer (c .either-report .ensures))
 
 returns-5 : tie.Need-returns-5
 unfolding reportedOf
-returns-5 c = rw (c .before .before .before .enum-told4 .given .1, ne-eqb _ _ (c .if1 .left)) refl
+returns-5 c = rw (c .before .before .before .enum-told5 .given .1) (c .lowest .ensures)
 
 returns-6 : tie.Need-returns-6
 unfolding reportedOf
-returns-6 c = rw (c .before .before .before .enum-told5 .given .1) (c .lowest2 .ensures)
+returns-6 c = rw (c .enum-told6 .given .1) refl
 
 returns-7 : tie.Need-returns-7
 unfolding reportedOf
-returns-7 c = rw (c .enum-told6 .given .1) refl
-
-returns-8 : tie.Need-returns-8
-unfolding reportedOf
-returns-8 c = rw (c .enum-told7 .given .1) refl
+returns-7 c = rw (c .enum-told7 .given .1) refl
 
 pub reported-spec : {M : Type 1} → statement M
 reported-spec =
@@ -73,9 +69,9 @@ reported-spec =
     enum-told-2
     enum-told-3
     enum-told-4
-    lowest-requires
+    either-report-requires
     enum-told-5
-    lowest-requires-2
+    lowest-requires
     enum-told-6
     enum-told-7
     returns
@@ -84,5 +80,4 @@ reported-spec =
     returns-4
     returns-5
     returns-6
-    returns-7
-    returns-8)
+    returns-7)
