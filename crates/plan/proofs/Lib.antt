@@ -1,6 +1,7 @@
 pub mod Agrees
 pub mod Children
 mod Columns
+mod Joined
 pub mod Laws
 mod Listed
 pub mod PlanBytes
