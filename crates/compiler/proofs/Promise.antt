@@ -108,6 +108,14 @@ answer-listed (conflict _ _ _ _ _) = omega arith
 answer-listed (no-room _ _ _ _) = omega arith
 answer-listed (done _ _ _ _ _) = omega arith
 
+-- the size answered for a book that passes is its plan's
+pub passed-size : {bytes : List ℕ} {room : ℕ} {a : Compiled} {p : List ℕ} → Compiles bytes room a p → a .number ≡ DONE → a .size ≡ sizeOf (bookOf bytes)
+passed-size (malformed bad) is = absurd (bad is)
+passed-size (barren _ _) is = absurd (omega arith)
+passed-size (conflict _ _ _ _ _) is = absurd (omega arith)
+passed-size (no-room _ _ _ _) is = absurd (omega arith)
+passed-size (done _ _ _ _ _) is = refl
+
 -- a refusal leaves the plan buffer as zeros
 pub refused-clear : {bytes : List ℕ} {room : ℕ} {a : Compiled} {p : List ℕ} → Compiles bytes room a p → a .number ≢ DONE → p ≡ zeros room
 refused-clear (malformed _) refused = refl
@@ -116,7 +124,8 @@ refused-clear (conflict _ _ _ _ _) refused = refl
 refused-clear (no-room _ _ _ _) refused = refl
 refused-clear (done _ _ _ _ _) refused = absurd (refused refl)
 
-plan-long : (bytes : List ℕ) (marks : Marks) → Formed bytes → length (planBytes bytes marks) ≡ sizeOf (bookOf bytes)
+-- the plan's bytes are as many as its size
+pub plan-long : (bytes : List ℕ) (marks : Marks) → Formed bytes → length (planBytes bytes marks) ≡ sizeOf (bookOf bytes)
 unfolding bookOf
 plan-long bytes marks form = size-is bytes marks form
 

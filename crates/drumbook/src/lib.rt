@@ -26,7 +26,12 @@ pub extern "C" fn drumbook_compile(book: &[u8], plan: &mut [u8]) -> Compiled
 
 // Reads a run by a plan, for any bytes, slots and tree room: done or 8 to 16; the tree, or zeros, and slots of zeros.
 #[no_mangle]
-pub extern "C" fn drumbook_read(plan: &[u8], run: &[u8], held: &mut [u16], tree: &mut [u16]) -> Reading
+pub extern "C" fn drumbook_read(
+    plan: &[u8],
+    run: &[u8],
+    held: &mut [u16],
+    tree: &mut [u16],
+) -> Reading
     ensures { λ r. ⌜ Reads (now (plan .entry)) (now (run .entry)) (now (held .entry)) (now (tree .entry)) r (now (held .exit)) (now (tree .exit)) ⌝ }
 {
     reader::read(plan, run, held, tree)

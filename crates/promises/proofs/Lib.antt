@@ -1,4 +1,4 @@
 pub mod Kept
-mod Listed
 mod Meant
+mod More
 mod Outcomes

@@ -16,9 +16,10 @@ use Rattle.plan.specs.Form.{planOf, planJudged}
 use Rattle.plan.specs.Running.{Plan, accepted, reading}
 use Rattle.plan.proofs.PlanDone.{plan-done, plan-reads}
 use Rattle.compiler.specs.declared.Compiled.{Compiled}
-use Rattle.compiler.specs.Compiles.{Compiles, malformed, barren, conflict, no-room, done, sizeOf}
-use Rattle.compiler.proofs.Promise.{Passed, passed}
+use Rattle.compiler.specs.Compiles.{Compiles}
+use Rattle.compiler.proofs.Promise.{Passed, passed, passed-size, plan-long}
 use Rattle.reader.specs.Reads.{Outcome, outcomeOf, runOf, readOf}
+use Rattle.reader.proofs.Answers.{read-told, records-counted}
 use Rattle.reader.proofs.Settles.{read-runs}
 use Rattle.meaning.specs.Meaning.{Passes}
 use Rattle.meaning.specs.Plans.{freePlan}
@@ -26,17 +27,7 @@ use Rattle.meaning.proofs.Records.{records-bound, records-events, records-empty
 use Rattle.meaning.proofs.Slots.{slots-free}
 use Rattle.meaning.proofs.Theorem.{reading-means}
 use Rattle.promises.specs.Promises.{slotsEnough, roomEnough, ReadsAsMeant, FewRecords}
-use Rattle.promises.proofs.Listed.{plan-long, read-answers}
 use Rattle.promises.proofs.Outcomes.{reads-as-meant}
-
--- the size that is answered is the plan's
-passed-size : {bytes : List ℕ} {room : ℕ} {a : Compiled} {plan : List ℕ} → Compiles bytes room a plan → a .number ≡ DONE
-    → a .size ≡ sizeOf (bookOf bytes)
-passed-size (malformed bad) is = absurd (bad is)
-passed-size (barren f b) is = absurd (omega arith)
-passed-size (conflict f p l r k) is = absurd (omega arith)
-passed-size (no-room f p c r) is = absurd (omega arith)
-passed-size (done f p c fits marked) is = refl
 
 -- an accepted run has few records
 few-records : (p : Plan) (run : List ℕ) {records : List ℕ} → 0 < p .count → reading p run ≡ accepted records
@@ -67,7 +58,7 @@ module _ {bytes : List ℕ} {room : ℕ} {a : Compiled} {plan : List ℕ} (compi
   given-plan : take (a .size) plan ≡ planBytes bytes (known .marks)
   given-plan =
       (λ i. take (passed-size compiled is i) (known .plan-is i))
-      ∙ take-at (planBytes bytes (known .marks)) _ _ (plan-long bytes (known .marks) (known .form))
+      ∙ take-at (planBytes bytes (known .marks)) _ _ (plan-long bytes (known .marks) (formed bytes (known .form)))
 
   -- with slots enough the machine on the plan's bytes answers as the free one
   reading-free : (run : List ℕ) (slots : ℕ) → slotsEnough (bookOf bytes .count) (length run) ≤ slots
@@ -95,7 +86,7 @@ module _ {bytes : List ℕ} {room : ℕ} {a : Compiled} {plan : List ℕ} (compi
   pub passed-records : (run : List ℕ) (slots tree-room : ℕ) → readOf (take (a .size) plan) run slots tree-room .reading .number ≡ DONE
       → FewRecords (bookOf bytes .count) (length run) (readOf (take (a .size) plan) run slots tree-room .reading .records)
   passed-records run slots tree-room accepts =
-      let found = read-answers (planBytes bytes (known .marks)) run slots tree-room .counted (inl (rw given-plan at accepts)) in
+      let found = records-counted (read-told (planBytes bytes (known .marks)) run slots tree-room) (inl (rw given-plan at accepts)) in
       rw (given-plan, found .2)
       (few-records (planFor (bookOf bytes) (known .marks) (λ n. ltb n slots)) run (passed-passes .well-formed .some-node)
       (sym (plan-reads bytes (known .marks) (formed bytes (known .form)) (λ n. ltb n slots) run) ∙ found .1))

@@ -89,3 +89,7 @@ pub record FewRecords (count events records : ℕ) : Type 0 where
 pub record OneDerivation {node : ℕ → Node} {n : ℕ} {run : List ℕ} (d e : Derives node (node n) run) : Type 0 where
   pub same-whole : full n d ≡ full n e
   pub same-records : tree n d ≡ tree n e
+
+-- an outcome with more tree room, filled with zeros
+abbrev pub wider : ℕ → ℕ → Outcome → Outcome
+wider room more o = outcome (o .reading) (o .tree ++ zeros (more - room))
