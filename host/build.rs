@@ -9,6 +9,7 @@ const ARCHIVE: &str = "DRUMBOOK_ARCHIVE";
 /// The archive's place from this folder, where the variable is not set.
 const PLACE: &str = "../target/staticlib/libdrumbook.a";
 
+/// Says where the archive is and that the tests link it.
 fn main() {
     let here = PathBuf::from(env::var_os("CARGO_MANIFEST_DIR").expect("set by cargo"));
     let archive = env::var_os(ARCHIVE).map_or_else(|| here.join(PLACE), PathBuf::from);

@@ -6,19 +6,65 @@ pub mod books;
 pub mod compile;
 pub mod ffi;
 pub mod form;
+pub mod meaning;
+pub mod read;
+pub mod recognise;
 pub mod worked;
 
 #[cfg(test)]
 mod tests {
     use super::*;
+    use answers::*;
+    use compile::compile;
+    use form::form;
+    use meaning::{all_runs, Check};
+    use read::read;
 
+    /// The worked books and damaged copies of the rinse book.
     #[test]
     fn worked_forms() {
-        worked::check_form(form::form);
+        worked::check_form(form);
     }
 
+    /// The worked books.
     #[test]
     fn worked_plans() {
-        worked::check_compile(compile::compile);
+        worked::check_compile(compile);
+    }
+
+    /// The worked runs, read.
+    #[test]
+    fn worked_readings() {
+        worked::check_read(compile, read);
+    }
+
+    /// The worked runs, by derivations.
+    #[test]
+    fn worked_meanings() {
+        worked::check_recognise();
+    }
+
+    /// All books of up to three nodes: compiler and reader against derivations.
+    #[test]
+    fn small_books_by_derivations() {
+        let mut check = Check::of(compile, read);
+        for (count, kinds) in [(1, 1), (2, 1), (3, 1), (1, 2), (2, 2), (3, 2)] {
+            check.small_books(count, kinds, &all_runs(kinds as u8 + 1, 4));
+        }
+        check.compiled.expect(&[DONE, BARREN, CONFLICT], 100);
+        check
+            .read_as
+            .expect(&[DONE, UNKNOWN, UNEXPECTED, END], 1_000);
+    }
+
+    /// Random books that pass: compiler and reader against derivations.
+    #[test]
+    fn random_books_by_derivations() {
+        let mut check = Check::of(compile, read);
+        check.random_books(1, 5_000);
+        check.compiled.expect(&[DONE, BARREN, CONFLICT], 500);
+        check
+            .read_as
+            .expect(&[DONE, UNKNOWN, UNEXPECTED, END], 5_000);
     }
 }

@@ -2,6 +2,7 @@
 
 use crate::answers::*;
 use crate::book::*;
+use crate::recognise::{Meaning, Table};
 
 /// The first 18 bytes of the rinse book.
 const RINSE_HEAD: [u8; BOOK_NODES] = [
@@ -147,6 +148,115 @@ fn check_plan_room(book: &Book, size: u32, compile: impl Fn(&[u8], &mut [u8]) ->
         assert_eq!((answer.kind, answer.size), (0, size), "of {book:?}");
         let written = plan.iter().any(|&byte| byte != 0);
         assert_eq!(written, number == DONE, "of {book:?}");
+    }
+}
+
+/// A run read by the plan of a worked book with so many slots and so much room.
+struct ReadCase {
+    book: Book,
+    run: &'static [u8],
+    slots: usize,
+    room: usize,
+    /// Number, place, records.
+    answer: [u32; 3],
+    expected: u64,
+    tree: &'static [u16],
+}
+
+/// A run read with just the room that its tree needs.
+fn accepted(book: Book, run: &'static [u8], slots: usize, tree: &'static [u16]) -> ReadCase {
+    let records = tree.len();
+    ReadCase {
+        book,
+        run,
+        slots,
+        room: records,
+        answer: [DONE, run.len() as u32, records as u32],
+        expected: 0,
+        tree,
+    }
+}
+
+/// A run of the rinse book that is refused in ample room.
+fn refused(run: &'static [u8], slots: usize, number: u32, place: u32, expected: u64) -> ReadCase {
+    ReadCase {
+        book: rinse(),
+        run,
+        slots,
+        room: 20,
+        answer: [number, place, 0],
+        expected,
+        tree: &[],
+    }
+}
+
+/// What an empty record has beside its node number.
+const E: u16 = EMPTY_RECORD;
+
+/// The worked runs.
+fn read_cases() -> Vec<ReadCase> {
+    vec![
+        accepted(rinse(), &[0, 1, 2], 2, &[8, 0, 7, 6, 5, 1, E + 4, 2]),
+        accepted(rinse(), &[0, 2], 2, &[8, 0, 7, E + 6, 2]),
+        refused(&[0, 1, 2], 1, DEEP, 1, 0),
+        refused(&[0, 1, 2], 0, DEEP, 0, 0),
+        refused(&[], 0, DEEP, 0, 0),
+        ReadCase {
+            room: 7,
+            answer: [NO_ROOM, 0, 8],
+            ..refused(&[0, 1, 2], 2, NO_ROOM, 0, 0)
+        },
+        refused(&[0, 0], 2, UNEXPECTED, 1, 6),
+        refused(&[], 2, END, 0, 1),
+        refused(&[0, 1, 1], 2, END, 3, 2),
+        refused(&[0, 2, 1], 2, UNEXPECTED, 2, 0),
+        refused(&[0, 3], 2, UNKNOWN, 1, 6),
+        accepted(harmless_recursion(), &[0], 1, &[4, 3]),
+        accepted(lone(EMPTY), &[], 1, &[E]),
+        ReadCase {
+            book: lone(EMPTY),
+            ..refused(&[0], 1, UNEXPECTED, 0, 0)
+        },
+        accepted(doubling(), &[], 1, &[E + 511]),
+        accepted(shared_kind_aside(), &[0], 1, &[0]),
+    ]
+}
+
+/// Checks an implementation of the reader on plans by an implementation of the compiler.
+pub fn check_read(
+    compile: impl Fn(&[u8], &mut [u8]) -> Compiled,
+    read: impl Fn(&[u8], &[u8], &mut [u16], &mut [u16]) -> Reading,
+) {
+    for case in read_cases() {
+        let mut plan = vec![0; 5_000];
+        let size = compile(&case.book.bytes(), &mut plan).size;
+        plan.truncate(size as usize);
+        let mut held = vec![0xA5A5; case.slots];
+        let mut tree = vec![0xA5A5; case.room];
+        let reading = read(&plan, case.run, &mut held, &mut tree);
+        let answer = [reading.number, reading.place, reading.records];
+        assert_eq!(answer, case.answer, "run {:?} of {:?}", case.run, case.book);
+        assert_eq!(reading.expected, case.expected, "run {:?}", case.run);
+        let mut wanted = case.tree.to_vec();
+        wanted.resize(case.room, 0);
+        assert_eq!(tree, wanted, "run {:?} of {:?}", case.run, case.book);
+        assert_eq!(held, vec![0; case.slots], "run {:?}", case.run);
+    }
+}
+
+/// Checks what the worked runs mean by derivations.
+pub fn check_recognise() {
+    for case in read_cases() {
+        let table = Table::of(&case.book, case.run);
+        let place = case.answer[1] as usize;
+        let meaning = match case.answer[0] {
+            DONE => Meaning::Lawful(case.tree.to_vec()),
+            UNEXPECTED => Meaning::Unexpected(place),
+            UNKNOWN => Meaning::Unknown(place),
+            END => Meaning::Unfinished,
+            _ => continue,
+        };
+        assert_eq!(table.meaning(), meaning, "run {:?}", case.run);
     }
 }
 

@@ -34,6 +34,7 @@ struct Pair {
 }
 
 impl Pair {
+    /// A pair that has compared nothing yet.
     fn new() -> Pair {
         Pair {
             book: Lent::new(LONGEST_BOOK),
@@ -95,11 +96,13 @@ impl Pair {
     }
 }
 
+/// The worked books.
 #[test]
 fn worked_books() {
     worked::check_compile(ffi::compile::compile);
 }
 
+/// All well-formed books of up to four nodes.
 #[test]
 fn every_small_book() {
     let mut pair = Pair::new();
@@ -115,6 +118,7 @@ fn every_small_book() {
     pair.expect_conflicts(16);
 }
 
+/// Random well-formed books of all shapes.
 #[test]
 fn random_books() {
     let mut pair = Pair::new();
@@ -132,6 +136,7 @@ fn random_books() {
     pair.expect_conflicts(2_000);
 }
 
+/// Books of up to 512 nodes and 64 kinds.
 #[test]
 fn large_books() {
     let mut pair = Pair::new();
@@ -146,11 +151,12 @@ fn large_books() {
     pair.tally.expect(&[DONE, BARREN, CONFLICT, PLAN_ROOM], 100);
 }
 
+/// Books with one or two things damaged.
 #[test]
 fn damaged_books() {
     let mut pair = Pair::new();
     let mut random = Random::new(4);
-    for _ in 0..60_000 {
+    for _ in 0..120_000 {
         let mut bytes = likely_book(&mut random).bytes();
         for _ in 0..random.within(1, 2) {
             bytes = damaged(&mut random, &bytes);
@@ -161,11 +167,12 @@ fn damaged_books() {
         pair.compare(&bytes, room, edge);
     }
     pair.tally
-        .expect(&[LENGTH, CONTENTS, SETTINGS, NODE], 1_000);
-    pair.tally.expect(&[DONE, CONFLICT, PLAN_ROOM], 1_000);
-    pair.tally.expect(&[BARREN], 400);
+        .expect(&[LENGTH, CONTENTS, SETTINGS, NODE], 3_000);
+    pair.tally.expect(&[DONE, CONFLICT, PLAN_ROOM], 2_000);
+    pair.tally.expect(&[BARREN], 800);
 }
 
+/// Books in memory that cannot be written.
 #[test]
 fn books_that_can_only_be_read() {
     let mut pair = Pair::new();

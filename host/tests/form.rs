@@ -21,6 +21,7 @@ struct Pair {
 }
 
 impl Pair {
+    /// A pair that has compared nothing yet.
     fn new() -> Pair {
         Pair {
             lent: Lent::new(LONGEST),
@@ -50,11 +51,13 @@ impl Pair {
     }
 }
 
+/// The worked books and damaged copies of the rinse book.
 #[test]
 fn worked_books() {
     worked::check_form(ffi::form::form);
 }
 
+/// All well-formed books of up to three nodes.
 #[test]
 fn every_small_book() {
     let mut pair = Pair::new();
@@ -65,6 +68,7 @@ fn every_small_book() {
     pair.tally.expect(&[DONE], pair.tally.total());
 }
 
+/// Two nodes of all small types and fields, right or wrong.
 #[test]
 fn small_fields_in_two_nodes() {
     let mut pair = Pair::new();
@@ -91,6 +95,7 @@ fn small_fields_in_two_nodes() {
     pair.tally.expect(&[SETTINGS, NODE], 4_000);
 }
 
+/// Every length, with random contents and with those fixed by the length, at both edges.
 #[test]
 fn every_length() {
     let mut pair = Pair::new();
@@ -116,6 +121,7 @@ fn every_length() {
     pair.tally.expect(&[DONE], MOST_NODES);
 }
 
+/// All values of each word of a small book, for a node of each type.
 #[test]
 fn every_value_of_each_word() {
     let mut pair = Pair::new();
@@ -145,6 +151,7 @@ fn every_value_of_each_word() {
     pair.tally.expect(&[SETTINGS, NODE], 65_000);
 }
 
+/// Books of all shapes with none, one or two things damaged.
 #[test]
 fn random_books_and_damaged_ones() {
     let mut pair = Pair::new();

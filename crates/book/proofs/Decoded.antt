@@ -74,6 +74,7 @@ pub record Formed (bytes : List ℕ) : Type 0 where
   pub some-kind : 0 < u16At bytes settingsAt
   pub few-kinds : u16At bytes settingsAt ≤ 64
   pub start-below : u16At bytes (settingsAt + 2) < countOf (length bytes)
+  pub nodes-good : countOf (length bytes) ≤ bad-node bytes
   pub good : GoodNodes bytes nodesAt (countOf (length bytes)) (u16At bytes settingsAt)
 
 pub formed : (bytes : List ℕ) → formOf bytes .number ≡ DONE → Formed bytes
@@ -93,6 +94,7 @@ formed bytes done =
       some-kind = leb-true _ _ least;
       few-kinds = leb-true _ _ most;
       start-below = ltb-true _ _ below;
+      nodes-good = ltb-false _ _ all-good;
       good =
           good-nodes bytes nodesAt _ _ (omega (arith, size .is)) (size .few-nodes) (leb-true _ _ most)
           (first-none _ _ (ltb-false _ _ all-good));

@@ -162,6 +162,7 @@ pub const SETTINGS: u32 = 3;
 pub const NODE: u32 = 4;
 
 // What a form test answers: done or a refusal's number, with its place.
+#[repr(C)]
 pub struct Judged {
     pub number: u32,
     pub place: u32,

@@ -1,1 +1,5 @@
 pub mod Rules
+pub mod Facts
+pub mod Conflicts
+pub mod Growth
+pub mod Step

@@ -1,6 +1,8 @@
 //! Books, damaged bytes, runs and forged plans to test with.
 
 pub mod damaged;
+pub mod forged;
 pub mod random;
+pub mod runs;
 pub mod shapes;
 pub mod small;

@@ -109,6 +109,7 @@ impl<T: Copy + PartialEq> Lent<T> {
 }
 
 impl<T> Drop for Lent<T> {
+    /// Gives the memory back.
     fn drop(&mut self) {
         // SAFETY: the whole mapping, which nothing borrows any more.
         unsafe { munmap(self.whole.cast(), self.bytes + 2 * PAGE) };

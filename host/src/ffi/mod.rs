@@ -5,3 +5,4 @@
 pub mod compile;
 pub mod form;
 pub mod lent;
+pub mod read;

@@ -1,0 +1,500 @@
+/* A plain C compiler and reader of document 01, to measure against. */
+#include "reference.h"
+
+#include <stdbool.h>
+#include <string.h>
+
+enum { FAIL, EMPTY, TOKEN, EITHER, THEN, TAGGED, REF };
+
+enum {
+    DONE, LENGTH, CONTENTS, SETTINGS, NODE, BARREN, CONFLICT, PLAN_ROOM, PLAN_FORM,
+    CELL, LONG, DEEP, UNKNOWN, UNEXPECTED, END, RUNAWAY, NO_ROOM
+};
+
+enum { REFUSE, TAKE, GO_LEFT, HOLD_RIGHT, SKIP_LEFT, GO_RIGHT };
+
+enum {
+    MOST_NODES = 512,
+    MOST_KINDS = 64,
+    MOST_EVENTS = 65535,
+    NODE_BYTES = 6,
+    BOOK_SETTINGS = 14,
+    BOOK_NODES = 18,
+    PLAN_SETTINGS = 20,
+    PLAN_NODES = 24,
+    BOTH_NULLABLE = 255,
+    EMPTY_RECORD = 32768
+};
+
+/* What the rules of figure 5 say of a node. */
+typedef struct {
+    uint64_t first, snf;
+    bool productive, nullable;
+} facts;
+
+/* A decoded node. */
+typedef struct { uint16_t form, left, right; } node;
+
+/* A book: where its settings and nodes stand, how many nodes and kinds, and its start. */
+typedef struct {
+    const uint8_t *nodes;
+    size_t count, kinds, start;
+} book;
+
+/* The 16-bit number at p, low byte first. */
+static uint16_t word(const uint8_t *p)
+{
+    return (uint16_t)(p[0] | p[1] << 8);
+}
+
+/* Writes a 16-bit number at p, low byte first. */
+static void put_word(uint8_t *p, size_t value)
+{
+    p[0] = (uint8_t)value;
+    p[1] = (uint8_t)(value >> 8);
+}
+
+/* The node of this number. */
+static node node_at(const book *b, size_t n)
+{
+    const uint8_t *p = b->nodes + NODE_BYTES * n;
+    return (node){word(p), word(p + 2), word(p + 4)};
+}
+
+/* Whether these words stand at p. */
+static bool words_are(const uint8_t *p, const uint16_t *words, size_t count)
+{
+    for (size_t i = 0; i < count; i++)
+        if (word(p + 2 * i) != words[i])
+            return false;
+    return true;
+}
+
+/* Whether a node's type and fields are by the table. */
+static bool proper(const book *b, size_t n)
+{
+    node x = node_at(b, n);
+    switch (x.form) {
+    case FAIL:
+    case EMPTY:
+        return x.left == 0 && x.right == 0;
+    case TOKEN:
+        return x.left < b->kinds && x.right == 0;
+    case EITHER:
+    case THEN:
+        return x.left < n && x.right < n;
+    case TAGGED:
+        return x.left < n && x.right != 0;
+    case REF:
+        return x.left < b->count && x.right == 0;
+    default:
+        return false;
+    }
+}
+
+/* The first node against the table, or the number of nodes. */
+static size_t improper(const book *b)
+{
+    size_t n = 0;
+    while (n < b->count && proper(b, n))
+        n++;
+    return n;
+}
+
+/* The book whose settings stand at p, with count nodes after them. */
+static book book_at(const uint8_t *p, size_t count)
+{
+    return (book){p + 4, count, word(p), word(p + 2)};
+}
+
+/* Whether the number of kinds and the start are in range. */
+static bool settings_proper(const book *b)
+{
+    return b->kinds >= 1 && b->kinds <= MOST_KINDS && b->start < b->count;
+}
+
+reference_formed reference_form(const uint8_t *bytes, size_t len)
+{
+    if (len < BOOK_NODES + NODE_BYTES || len > BOOK_NODES + NODE_BYTES * MOST_NODES
+        || (len - BOOK_NODES) % NODE_BYTES != 0)
+        return (reference_formed){LENGTH, 0};
+    uint16_t contents[] = {2, 1, BOOK_SETTINGS, 4, 2, BOOK_NODES, (uint16_t)(len - BOOK_NODES)};
+    if (!words_are(bytes, contents, 7))
+        return (reference_formed){CONTENTS, 0};
+    book b = book_at(bytes + BOOK_SETTINGS, (len - BOOK_NODES) / NODE_BYTES);
+    if (!settings_proper(&b))
+        return (reference_formed){SETTINGS, 0};
+    size_t n = improper(&b);
+    if (n < b.count)
+        return (reference_formed){NODE, (uint32_t)n};
+    return (reference_formed){DONE, 0};
+}
+
+/* What the rules give for a node, from what is known of its sides. */
+static facts by_rules(node x, const facts *known)
+{
+    facts none = {0, 0, false, false};
+    switch (x.form) {
+    case EMPTY:
+        return (facts){0, 0, true, true};
+    case TOKEN:
+        return (facts){(uint64_t)1 << x.left, 0, true, false};
+    case TAGGED:
+    case REF:
+        return known[x.left];
+    case EITHER: {
+        facts l = known[x.left], r = known[x.right];
+        return (facts){
+            l.first | r.first,
+            l.snf | r.snf | (r.nullable ? l.first : 0) | (l.nullable ? r.first : 0),
+            l.productive || r.productive,
+            l.nullable || r.nullable};
+    }
+    case THEN: {
+        facts l = known[x.left], r = known[x.right];
+        return (facts){
+            (r.productive ? l.first : 0) | (l.nullable ? r.first : 0),
+            (r.nullable ? l.snf : 0) | (l.productive ? r.snf : 0),
+            l.productive && r.productive,
+            l.nullable && r.nullable};
+    }
+    default:
+        return none;
+    }
+}
+
+/* Whether two nodes' facts are the same. */
+static bool same(facts a, facts b)
+{
+    return a.first == b.first && a.snf == b.snf && a.productive == b.productive
+        && a.nullable == b.nullable;
+}
+
+/* Finds the least facts of all nodes. */
+static void find_facts(const book *b, facts *known)
+{
+    memset(known, 0, b->count * sizeof *known);
+    bool changed = true;
+    while (changed) {
+        changed = false;
+        for (size_t n = 0; n < b->count; n++) {
+            facts next = by_rules(node_at(b, n), known);
+            if (!same(next, known[n])) {
+                known[n] = next;
+                changed = true;
+            }
+        }
+    }
+}
+
+/* Marks a node as reachable and notes it as due, once. */
+static void reach(size_t n, bool *reachable, uint16_t *due, size_t *count)
+{
+    if (!reachable[n]) {
+        reachable[n] = true;
+        due[(*count)++] = (uint16_t)n;
+    }
+}
+
+/* Marks the reachable nodes. */
+static void find_reachable(const book *b, bool *reachable)
+{
+    uint16_t due[MOST_NODES];
+    size_t count = 0;
+    memset(reachable, 0, b->count);
+    reach(b->start, reachable, due, &count);
+    while (count > 0) {
+        node x = node_at(b, due[--count]);
+        if (x.form >= EITHER)
+            reach(x.left, reachable, due, &count);
+        if (x.form == EITHER || x.form == THEN)
+            reach(x.right, reachable, due, &count);
+    }
+}
+
+/* The lowest kind of a set that is not empty. */
+static uint32_t lowest(uint64_t set)
+{
+    uint32_t kind = 0;
+    while ((set >> kind & 1) == 0)
+        kind++;
+    return kind;
+}
+
+/* Whether a node has a conflict, and its kind. */
+static bool conflict(node x, const facts *known, uint32_t *kind)
+{
+    if (x.form != EITHER && x.form != THEN)
+        return false;
+    facts l = known[x.left], r = known[x.right];
+    if (x.form == EITHER && l.nullable && r.nullable) {
+        *kind = BOTH_NULLABLE;
+        return true;
+    }
+    uint64_t shared = (x.form == EITHER ? l.first : l.snf) & r.first;
+    if (shared == 0)
+        return false;
+    *kind = lowest(shared);
+    return true;
+}
+
+/* The cell of a node for a kind in its FIRST set. */
+static uint8_t cell(node x, size_t kind, const facts *known)
+{
+    switch (x.form) {
+    case TOKEN:
+        return TAKE;
+    case EITHER:
+        return known[x.left].first >> kind & 1 ? GO_LEFT : GO_RIGHT;
+    case THEN:
+        return known[x.left].nullable && !(known[x.left].first >> kind & 1) ? SKIP_LEFT
+                                                                            : HOLD_RIGHT;
+    default:
+        return GO_LEFT;
+    }
+}
+
+/* Writes the rows of all nodes into zeros. */
+static void write_rows(const book *b, const facts *known, uint8_t *row)
+{
+    for (size_t n = 0; n < b->count; n++, row += b->kinds + 1) {
+        node x = node_at(b, n);
+        for (size_t kind = 0; kind < b->kinds; kind++)
+            if (known[n].first >> kind & 1)
+                row[kind] = cell(x, kind, known);
+        row[b->kinds] = known[n].nullable;
+    }
+}
+
+/* The size of a book's plan. */
+static size_t plan_size(const book *b)
+{
+    return PLAN_NODES + NODE_BYTES * b->count + b->count * (b->kinds + 1);
+}
+
+/* The contents that a plan must have. */
+static void plan_contents(const book *b, uint16_t *words)
+{
+    size_t nodes = NODE_BYTES * b->count;
+    uint16_t contents[] = {3, 1, PLAN_SETTINGS, 4, 2, PLAN_NODES, (uint16_t)nodes,
+                           3, (uint16_t)(PLAN_NODES + nodes), (uint16_t)(b->count * (b->kinds + 1))};
+    memcpy(words, contents, sizeof contents);
+}
+
+/* Writes a book's plan into zeros. */
+static void write_plan(const book *b, const facts *known, uint8_t *plan)
+{
+    uint16_t contents[10];
+    plan_contents(b, contents);
+    for (size_t i = 0; i < 10; i++)
+        put_word(plan + 2 * i, contents[i]);
+    memcpy(plan + PLAN_SETTINGS, b->nodes - 4, 4 + NODE_BYTES * b->count);
+    write_rows(b, known, plan + PLAN_NODES + NODE_BYTES * b->count);
+}
+
+reference_compiled reference_compile(const uint8_t *bytes, size_t len, uint8_t *plan,
+                                     size_t plan_len)
+{
+    facts known[MOST_NODES];
+    bool reachable[MOST_NODES];
+    memset(plan, 0, plan_len);
+    reference_formed formed = reference_form(bytes, len);
+    if (formed.number != DONE)
+        return (reference_compiled){formed.number, formed.place, 0, 0};
+    book b = book_at(bytes + BOOK_SETTINGS, (len - BOOK_NODES) / NODE_BYTES);
+    find_facts(&b, known);
+    if (!known[b.start].productive)
+        return (reference_compiled){BARREN, (uint32_t)b.start, 0, 0};
+    find_reachable(&b, reachable);
+    for (size_t n = 0; n < b.count; n++) {
+        uint32_t kind;
+        if (reachable[n] && conflict(node_at(&b, n), known, &kind))
+            return (reference_compiled){CONFLICT, (uint32_t)n, kind, 0};
+    }
+    size_t size = plan_size(&b);
+    if (plan_len < size)
+        return (reference_compiled){PLAN_ROOM, 0, 0, (uint32_t)size};
+    write_plan(&b, known, plan);
+    return (reference_compiled){DONE, 0, 0, (uint32_t)size};
+}
+
+/* Whether a plan's length, contents, settings and nodes are right; fills in its book. */
+static bool plan_form(const uint8_t *plan, size_t len, book *b)
+{
+    uint16_t contents[10];
+    if (len < PLAN_NODES)
+        return false;
+    size_t kinds = word(plan + PLAN_SETTINGS);
+    if (kinds < 1 || kinds > MOST_KINDS || (len - PLAN_NODES) % (NODE_BYTES + kinds + 1) != 0)
+        return false;
+    size_t count = (len - PLAN_NODES) / (NODE_BYTES + kinds + 1);
+    if (count > MOST_NODES)
+        return false;
+    *b = book_at(plan + PLAN_SETTINGS, count);
+    plan_contents(b, contents);
+    return settings_proper(b) && words_are(plan, contents, 10) && improper(b) == b->count;
+}
+
+/* Whether a node of this type can have this kind cell. */
+static bool cell_proper(uint16_t form, uint8_t c)
+{
+    static const uint8_t allowed[] = {
+        1, 1, 1 | 1 << TAKE, 1 | 1 << GO_LEFT | 1 << GO_RIGHT,
+        1 | 1 << HOLD_RIGHT | 1 << SKIP_LEFT, 1 | 1 << GO_LEFT, 1 | 1 << GO_LEFT};
+    return c <= GO_RIGHT && (allowed[form] >> c & 1);
+}
+
+/* The first cell against its node's type, or the number of cells. */
+static size_t improper_cell(const book *b, const uint8_t *cells)
+{
+    size_t width = b->kinds + 1;
+    for (size_t n = 0; n < b->count; n++) {
+        uint16_t form = node_at(b, n).form;
+        for (size_t kind = 0; kind < b->kinds; kind++)
+            if (!cell_proper(form, cells[n * width + kind]))
+                return n * width + kind;
+        if (cells[n * width + b->kinds] > 1)
+            return n * width + b->kinds;
+    }
+    return b->count * width;
+}
+
+/* A reading under way. */
+typedef struct {
+    book b;
+    const uint8_t *cells;
+    uint16_t *held, *tree;
+    size_t held_len, tree_len, held_count, records;
+} reader;
+
+/* A node's row. */
+static const uint8_t *row(const reader *r, size_t n)
+{
+    return r->cells + n * (r->b.kinds + 1);
+}
+
+/* Writes a record, where there is room. */
+static void record(reader *r, size_t value)
+{
+    if (r->records < r->tree_len)
+        r->tree[r->records] = (uint16_t)value;
+    r->records++;
+}
+
+/* Walks down from a node until the event is taken or refused. */
+static uint32_t walk(reader *r, size_t n, size_t kind)
+{
+    for (size_t visits = 0; visits < r->b.count; visits++) {
+        const uint8_t *p = r->b.nodes + NODE_BYTES * n;
+        record(r, n);
+        switch (row(r, n)[kind]) {
+        case REFUSE:
+            return UNEXPECTED;
+        case TAKE:
+            return DONE;
+        case HOLD_RIGHT:
+            if (r->held_count == r->held_len)
+                return DEEP;
+            r->held[r->held_count++] = word(p + 4);
+            n = word(p + 2);
+            break;
+        case SKIP_LEFT:
+            record(r, word(p + 2) + (size_t)EMPTY_RECORD);
+            n = word(p + 4);
+            break;
+        case GO_RIGHT:
+            n = word(p + 4);
+            break;
+        default:
+            n = word(p + 2);
+        }
+    }
+    return RUNAWAY;
+}
+
+/* Takes parts off until one begins with the event, and walks from it. */
+static uint32_t event(reader *r, size_t kind)
+{
+    while (r->held_count > 0) {
+        size_t n = r->held[--r->held_count];
+        if (row(r, n)[kind] != REFUSE)
+            return walk(r, n, kind);
+        if (row(r, n)[r->b.kinds] == 0)
+            return UNEXPECTED;
+        record(r, n + EMPTY_RECORD);
+    }
+    return UNEXPECTED;
+}
+
+/* Takes all held parts off at the end. */
+static uint32_t finish(reader *r)
+{
+    while (r->held_count > 0) {
+        size_t n = r->held[--r->held_count];
+        if (row(r, n)[r->b.kinds] == 0)
+            return END;
+        record(r, n + EMPTY_RECORD);
+    }
+    return DONE;
+}
+
+/* The FIRST set of the part held last, as its row has it. */
+static uint64_t expected(const reader *r, const uint16_t *held, size_t count)
+{
+    uint64_t set = 0;
+    if (count > 0)
+        for (size_t kind = 0; kind < r->b.kinds; kind++)
+            if (row(r, held[count - 1])[kind] != 0)
+                set |= (uint64_t)1 << kind;
+    return set;
+}
+
+/* Runs the plan over the events and their end. */
+static reference_reading run_plan(reader *r, const uint8_t *run, size_t run_len)
+{
+    r->held[0] = (uint16_t)r->b.start;
+    r->held_count = 1;
+    for (size_t i = 0; i <= run_len; i++) {
+        size_t count = r->held_count;
+        uint16_t last = count > 0 ? r->held[count - 1] : 0;
+        uint32_t number = i == run_len ? finish(r)
+            : run[i] >= r->b.kinds ? UNKNOWN : event(r, run[i]);
+        if (number == UNKNOWN || number == UNEXPECTED || number == END)
+            return (reference_reading){number, (uint32_t)i, 0, expected(r, &last, count > 0)};
+        if (number != DONE)
+            return (reference_reading){number, (uint32_t)i, 0, 0};
+    }
+    if (r->records > r->tree_len)
+        return (reference_reading){NO_ROOM, 0, (uint32_t)r->records, 0};
+    return (reference_reading){DONE, (uint32_t)run_len, (uint32_t)r->records, 0};
+}
+
+/* Tests the plan and the run's length, then runs the plan. */
+static reference_reading checked_run(reader *r, const uint8_t *plan, size_t plan_len,
+                                     const uint8_t *run, size_t run_len)
+{
+    if (!plan_form(plan, plan_len, &r->b))
+        return (reference_reading){PLAN_FORM, 0, 0, 0};
+    r->cells = plan + PLAN_NODES + NODE_BYTES * r->b.count;
+    size_t bad = improper_cell(&r->b, r->cells);
+    if (bad < r->b.count * (r->b.kinds + 1))
+        return (reference_reading){CELL, (uint32_t)bad, 0, 0};
+    if (run_len > MOST_EVENTS)
+        return (reference_reading){LONG, 0, 0, 0};
+    if (r->held_len == 0)
+        return (reference_reading){DEEP, 0, 0, 0};
+    return run_plan(r, run, run_len);
+}
+
+reference_reading reference_read(const uint8_t *plan, size_t plan_len, const uint8_t *run,
+                                 size_t run_len, uint16_t *held, size_t held_len,
+                                 uint16_t *tree, size_t tree_len)
+{
+    reader r = {.held = held, .tree = tree, .held_len = held_len, .tree_len = tree_len};
+    memset(tree, 0, tree_len * sizeof *tree);
+    reference_reading reading = checked_run(&r, plan, plan_len, run, run_len);
+    memset(held, 0, held_len * sizeof *held);
+    if (reading.number != DONE)
+        memset(tree, 0, tree_len * sizeof *tree);
+    return reading;
+}

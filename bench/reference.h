@@ -1,0 +1,25 @@
+/* A plain C compiler and reader of document 01, to measure against. */
+#ifndef REFERENCE_H
+#define REFERENCE_H
+
+#include <stddef.h>
+#include <stdint.h>
+
+typedef struct { uint32_t number, place; } reference_formed;
+typedef struct { uint32_t number, place, kind, size; } reference_compiled;
+typedef struct { uint32_t number, place, records; uint64_t expected; } reference_reading;
+
+/* Judges the form of a book. */
+reference_formed reference_form(const uint8_t *book, size_t book_len);
+
+/* Compiles a book into a plan. */
+reference_compiled reference_compile(const uint8_t *book, size_t book_len,
+                                     uint8_t *plan, size_t plan_len);
+
+/* Runs a plan over a run. */
+reference_reading reference_read(const uint8_t *plan, size_t plan_len,
+                                 const uint8_t *run, size_t run_len,
+                                 uint16_t *held, size_t held_len,
+                                 uint16_t *tree, size_t tree_len);
+
+#endif

@@ -1,0 +1,16 @@
+-- What the rules' facts say of runs, and that reading keeps to what a book means.
+pub mod Facts
+pub mod Parts
+pub mod Walk
+pub mod Clear
+pub mod Machine
+pub mod Size
+pub mod Orderly
+pub mod Event
+pub mod Run
+pub mod Unique
+pub mod Verdict
+pub mod Theorem
+pub mod Records
+pub mod Limits
+pub mod Slots

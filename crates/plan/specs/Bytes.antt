@@ -1,0 +1,58 @@
+-- The bytes of a book's plan: contents, settings and nodes as in the book, then the rows.
+use Prim.Native.Nat.{ℕ, zero, suc, _+_, _*_, _/_, _%_}
+use mathlib.Core.Bool.{Bool, cond}
+use mathlib.Core.List.{List, [], _∷_, _++_}
+use lib.ListN.{length, drop}
+use Rattle.book.specs.Book.{Book, leftOf, rightOf}
+use Rattle.book.specs.Form.{settingsAt, bookOf}
+use Rattle.plan.specs.Cells.{Marks, cellOf}
+use Rattle.plan.specs.Form.{planSettingsAt, planNodesAt, rowsAt}
+use Rattle.plan.specs.Running.{Plan}
+
+-- numbers as bytes: 16 bits each, low byte first
+unfoldable pub wordBytes : List ℕ → List ℕ
+wordBytes [] = []
+wordBytes (n ∷ more) = n % 256 ∷ n / 256 % 256 ∷ wordBytes more
+
+-- so many values, from a number on
+unfoldable pub valuesFrom : (ℕ → ℕ) → ℕ → ℕ → List ℕ
+valuesFrom value zero n = []
+valuesFrom value (suc left) n = value n ∷ valuesFrom value left (suc n)
+
+-- so many lists one after the other, from a number on
+unfoldable pub listsFrom : (ℕ → List ℕ) → ℕ → ℕ → List ℕ
+listsFrom list zero n = []
+listsFrom list (suc left) n = list n ++ listsFrom list left (suc n)
+
+-- a plan's contents: count 3, then section number, offset and length of settings, nodes and rows
+unfoldable pub planContents : ℕ → ℕ → List ℕ
+planContents count kinds =
+    wordBytes (3 ∷ 1 ∷ planSettingsAt ∷ 4 ∷ 2 ∷ planNodesAt ∷ (6 * count) ∷ 3 ∷ rowsAt count ∷ (count * (kinds + 1)) ∷ [])
+
+module _ (marks : Marks) (book : Book) where
+  -- a node's row: a cell for each kind, then 1 if the node is nullable, else 0
+  unfoldable pub rowOf : ℕ → List ℕ
+  rowOf n = valuesFrom (λ k. cellOf marks k n (book .node n)) (book .kinds) 0 ++ (cond (marks .null n) 1 0 ∷ [])
+
+  -- all rows
+  unfoldable pub rowsOf : List ℕ
+  rowsOf = listsFrom rowOf (book .count) 0
+
+-- the plan of a book's bytes, with the marks of its nodes
+unfoldable pub planBytes : List ℕ → Marks → List ℕ
+planBytes bytes marks =
+    planContents (bookOf bytes .count) (bookOf bytes .kinds) ++ (drop settingsAt bytes ++ rowsOf marks (bookOf bytes))
+
+-- the plan of a book by marks for its nodes, for a reading with free slots by a test
+abbrev pub planFor : Book → Marks → (ℕ → Bool) → Plan
+planFor book marks free =
+    record {
+      count = book .count;
+      kinds = book .kinds;
+      start = book .start;
+      left = λ n. leftOf (book .node n);
+      right = λ n. rightOf (book .node n);
+      cell = λ n k. cellOf marks k n (book .node n);
+      null = marks .null;
+      free = free;
+    }

@@ -1,0 +1,215 @@
+-- Laws of a list of sets that only grows: one set joined with more, one growth after another, the steps of a turn, the sum's bound.
+use Prim.Native.Nat.{ℕ, zero, suc, _+_, _*_, _-_, _^_, _≤_, _<_}
+use mathlib.Core.Path.{_≡_, refl, sym, ap, _∙_, subst, subst₂}
+use mathlib.Core.Bool.{Bool, true, false, cond, _||_, true≢false, false≢true}
+use mathlib.Core.List.{List, [], _∷_}
+use mathlib.Core.Logic.{_⊎_, inl, inr, ⊎-elim, _≢_}
+use native.Mathlib.Decide.{ℕ-discrete, decLt}
+use native.Mathlib.Omega.{arith}
+use borrow.Author.Tests.{eqb-true, eqb-false, not-true, not-false, lt-ltb, le-ltb}
+use lib.ListN.{length, getD, set, length-set, replicate, length-replicate}
+use lib.Seq.{getD-set-same, getD-set-other, set-getD}
+use lib.Bits.{or-add-and, and-le-r}
+use Rattle.kinds.specs.Kinds.{Has, joined}
+use Rattle.kinds.proofs.Laws.{has-join, none}
+use Rattle.rules.specs.Growth.{Sound, Blank, Joined, Grown, Visited, Turned, total, visitedAt}
+
+-- ---- sums
+
+total-set : (sets : List ℕ) (i mask : ℕ) → i < length sets → total (set sets i mask) + getD sets i 0 ≡ total sets + mask
+unfolding total
+total-set [] i mask h = absurd (omega arith)
+total-set (a ∷ sets) zero mask h = omega arith
+total-set (a ∷ sets) (suc i) mask h = omega (arith, total-set sets i mask (omega arith))
+
+pub total-bound : (sets : List ℕ) → ((i : ℕ) → getD sets i 0 < 2 ^ 64) → total sets ≤ length sets * 2 ^ 64
+unfolding total
+total-bound [] small = omega arith
+total-bound (a ∷ sets) small = omega (arith, total-bound sets (λ i. small (suc i)), small 0)
+
+-- ---- truth values
+
+pub or-false : (a b : Bool) → (a || b) ≡ false → (a ≡ false) × (b ≡ false)
+or-false true b e = absurd (true≢false e)
+or-false false b e = (refl, e)
+
+pub or-true : (a b : Bool) → (a || b) ≡ true → (a ≡ true) ⊎ (b ≡ true)
+or-true true b e = inl refl
+or-true false b e = inr e
+
+-- ---- growth
+
+-- what grows by a rule stays sound
+pub grown-sound : {By : ℕ → ℕ → Type 0} {before after : List ℕ} {changed : Bool}
+    → Grown By before after changed → Sound By before → Sound By after
+grown-sound grown sound = record { by = λ i k has. ⊎-elim (sound .by i k) (λ by. by) (grown .adds i k has) }
+
+pub blank-sound : {By : ℕ → ℕ → Type 0} {least : ℕ} {sets : List ℕ} → Blank least sets → Sound By sets
+blank-sound blank = record { by = λ i k has. absurd (none (subst (λ (mask : ℕ). Has mask k) (blank .zeros i) has)) }
+
+-- zeros are blank
+pub blank-zeros : (n : ℕ) → Blank n (replicate n 0)
+blank-zeros n = record { long = omega (arith, length-replicate {A = ℕ} n 0); zeros = zeros n }
+  where
+    zeros : (n i : ℕ) → getD {A = ℕ} (replicate n 0) i 0 ≡ 0
+    zeros zero i = refl
+    zeros (suc n) zero = refl
+    zeros (suc n) (suc i) = zeros n i
+
+-- blank sets are blank to a lower length
+pub blank-less : {less least : ℕ} {sets : List ℕ} → less ≤ least → Blank least sets → Blank less sets
+blank-less {less} {least} l blank = record { long = omega (arith, blank .long); zeros = blank .zeros }
+
+pub grown-none : {By : ℕ → ℕ → Type 0} (sets : List ℕ) → Grown By sets sets false
+grown-none sets = record {
+  long = refl;
+  keeps = λ i k has. has;
+  adds = λ i k has. inl has;
+  still = λ e. refl;
+  grew = λ e. absurd (false≢true e);
+}
+
+pub grown-then : {By : ℕ → ℕ → Type 0} {first second third : List ℕ} {c d : Bool}
+    → Grown By first second c → Grown By second third d → Grown By first third (c || d)
+grown-then {By} {first} {second} {third} {c} {d} p q = record {
+  long = q .long ∙ p .long;
+  keeps = λ i k has. q .keeps i k (p .keeps i k has);
+  adds = λ i k has. ⊎-elim (p .adds i k) inr (q .adds i k has);
+  still = λ e. q .still (or-false c d e .1) ∙ p .still (or-false c d e .0);
+  grew = λ e. grew c d p q (or-true c d e);
+}
+  where
+    least : (c : Bool) → Grown By first second c → total first ≤ total second
+    least true p = omega (arith, p .grew refl)
+    least false p = omega (arith, ap total (p .still refl))
+
+    more : (d : Bool) → Grown By second third d → total second ≤ total third
+    more true q = omega (arith, q .grew refl)
+    more false q = omega (arith, ap total (q .still refl))
+
+    grew : (c d : Bool) → Grown By first second c → Grown By second third d → (c ≡ true) ⊎ (d ≡ true) → total first < total third
+    grew c d p q (inl e) = omega (arith, p .grew e, more d q)
+    grew c d p q (inr e) = omega (arith, q .grew e, least c p)
+
+-- growth by one rule is growth by a wider one
+pub grown-by : {By Wider : ℕ → ℕ → Type 0} {before after : List ℕ} {changed : Bool}
+    → ((i k : ℕ) → By i k → Wider i k) → Grown By before after changed → Grown Wider before after changed
+grown-by wider p = record {
+  long = p .long;
+  keeps = p .keeps;
+  adds = λ i k has. ⊎-elim inl (λ by. inr (wider i k by)) (p .adds i k has);
+  still = p .still;
+  grew = p .grew;
+}
+
+-- one set joined with more is growth by what is joined
+module _ {before after : List ℕ} {i more : ℕ} {changed : Bool} (inside : i < length before) (j : Joined before after i more changed) where
+  here : getD after i 0 ≡ joined (getD before i 0) more
+  here = ap (λ (sets : List ℕ). getD sets i 0) (j .sets) ∙ getD-set-same before i _ 0 inside
+
+  other : (m : ℕ) → m ≢ i → getD after m 0 ≡ getD before m 0
+  other m differ = ap (λ (sets : List ℕ). getD sets m 0) (j .sets) ∙ getD-set-other before i m _ 0 differ
+
+  same : changed ≡ false → joined (getD before i 0) more ≡ getD before i 0
+  same e = eqb-true _ _ (not-false _ (sym (j .changed-is) ∙ e))
+
+  pub joined-grown : {By : ℕ → ℕ → Type 0} → ((k : ℕ) → Has more k → By i k) → Grown By before after changed
+  joined-grown {By} by = record {
+    long = ap length (j .sets) ∙ length-set before i _;
+    keeps = λ m k. keeps m k (ℕ-discrete m i);
+    adds = λ m k. adds m k (ℕ-discrete m i);
+    still = λ e. j .sets ∙ ap (set before i) (same e) ∙ set-getD before i 0;
+    grew = λ e.
+        let differ : joined (getD before i 0) more ≢ getD before i 0 = eqb-false _ _ (not-true _ (sym (j .changed-is) ∙ e)) in
+        omega (
+          arith,
+          total-set before i (joined (getD before i 0) more) inside,
+          ap total (j .sets),
+          or-add-and (getD before i 0) more,
+          and-le-r (getD before i 0) more,
+        );
+  }
+    where
+      keeps : (m k : ℕ) → Dec (m ≡ i) → Has (getD before m 0) k → Has (getD after m 0) k
+      keeps m k (yes e) has = rw (e, here) (has-join (getD before i 0) more k .1 (inl (rw e at has)))
+      keeps m k (no f) has = rw (other m f) has
+
+      adds : (m k : ℕ) → Dec (m ≡ i) → Has (getD after m 0) k → Has (getD before m 0) k ⊎ By m k
+      adds m k (yes e) has =
+          ⊎-elim (λ kept. inl (rw e kept)) (λ added. inr (rw e (by k added)))
+          (has-join (getD before i 0) more k .0 (rw (e, here) at has))
+      adds m k (no f) has = inl (rw (other m f) at has)
+
+  -- the set has what was joined
+  pub joined-has : (k : ℕ) → Has more k → Has (getD after i 0) k
+  joined-has k has = rw here (has-join (getD before i 0) more k .1 (inr has))
+
+  -- where nothing changed, the set had all that was joined
+  pub joined-held : changed ≡ false → (k : ℕ) → Has more k → Has (getD before i 0) k
+  joined-held e k has = rw (same e) at (has-join (getD before i 0) more k .1 (inr has))
+
+-- ---- turns
+
+-- each step of a turn visits a node below the count
+pub visited-inside : (count i : ℕ) → i < 2 * count → visitedAt count i < count
+visited-inside count i below = go (decLt i count)
+  where
+    go : Dec (i < count) → visitedAt count i < count
+    go (yes up) = rw (lt-ltb i count up) up
+    go (no down) = rw (le-ltb i count (omega arith)) (omega arith)
+
+-- the first steps of a turn have been made
+pub record Turning (By : ℕ → ℕ → Type 0) (Closed : List ℕ → ℕ → Type 0) (count : ℕ) (before after : List ℕ) (i : ℕ) (changed : Bool) : Type 0 where
+  pub grown : Grown By before after changed
+  pub closed : changed ≡ false → (n : ℕ) → n < count → n < i → Closed before n
+
+module _ {By : ℕ → ℕ → Type 0} {Closed : List ℕ → ℕ → Type 0} {count : ℕ} where
+  pub turning-none : (sets : List ℕ) → Turning By Closed count sets sets 0 false
+  turning-none sets = record { grown = grown-none sets; closed = λ e n below l. absurd (omega arith) }
+
+  pub turning-more : {before between after : List ℕ} {i n : ℕ} {c d : Bool} → Turning By Closed count before between i c → i < 2 * count
+      → n ≡ visitedAt count i → Visited By Closed n between after d → Turning By Closed count before after (i + 1) (c || d)
+  turning-more {before} {between} {after} {i} {n} {c} {d} turning below at visited = record {
+    grown = grown-then (turning .grown) (visited .grown);
+    closed = λ e m inside l. closed m inside (or-false c d e) (ℕ-discrete m i) l;
+  }
+    where
+      closed : (m : ℕ) → m < count → (c ≡ false) × (d ≡ false) → Dec (m ≡ i) → m < i + 1 → Closed before m
+      closed m inside (e, f) (yes same) l =
+          let upward : n ≡ m = at ∙ ap (λ (t : Bool). cond t i (2 * count - 1 - i)) (lt-ltb i count (rw same at inside)) ∙ sym same in
+          subst₂ Closed (turning .grown .still e) upward (visited .closed f)
+      closed m inside (e, f) (no other) l = turning .closed e m inside (omega arith)
+
+  pub turning-end : {before after : List ℕ} {i : ℕ} {c : Bool} → Turning By Closed count before after i c → 2 * count ≤ i
+      → Turned By Closed count before after c
+  turning-end turning end = record { grown = turning .grown; closed = λ e n below. turning .closed e n below (omega arith) }
+
+-- ---- turns until one changes nothing
+
+-- turns have been made: the list has what it had, and all of it by a rule
+pub record Settling (By : ℕ → ℕ → Type 0) (before after : List ℕ) : Type 0 where
+  pub long : length after ≡ length before
+  pub keeps : (i k : ℕ) → Has (getD before i 0) k → Has (getD after i 0) k
+  pub sound : Sound By after
+
+-- what is left for the sum of a list of so many sets to grow
+unfoldable pub roomLeft : ℕ → List ℕ → ℕ
+roomLeft count sets = count * 2 ^ 64 - total sets
+
+module _ {By : ℕ → ℕ → Type 0} where
+  pub settling-none : {sets : List ℕ} → Sound By sets → Settling By sets sets
+  settling-none sound = record { long = refl; keeps = λ i k has. has; sound = sound }
+
+  pub settling-more : {before between after : List ℕ} {changed : Bool} → Settling By before between → Grown By between after changed
+      → Settling By before after
+  settling-more settling grown = record {
+    long = grown .long ∙ settling .long;
+    keeps = λ i k has. grown .keeps i k (settling .keeps i k has);
+    sound = grown-sound grown (settling .sound);
+  }
+
+  pub settling-less : {before between after : List ℕ} {changed : Bool} → Settling By before between → Grown By between after changed
+      → changed ≡ true → ((i : ℕ) → getD after i 0 < 2 ^ 64) → roomLeft (length before) after < roomLeft (length before) between
+  unfolding roomLeft
+  settling-less {before} {between} {after} settling grown changed small =
+      omega (arith, grown .grew changed, total-bound after small, grown .long, settling .long)

@@ -1,0 +1,7 @@
+pub mod Growing
+pub mod Reading
+pub mod Steps
+pub mod Complete
+pub mod Spreading
+pub mod Laws
+pub mod Reports

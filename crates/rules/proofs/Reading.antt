@@ -1,0 +1,74 @@
+-- What is known of a node that was read from the bytes of good nodes.
+use Prim.Native.Nat.{ℕ, _<_}
+use mathlib.Core.Path.{_≡_, sym, _∙_}
+use mathlib.Core.List.{List}
+use native.Mathlib.Omega.{arith}
+use Rattle.book.specs.Book.{Proper, fail-is, empty-is, token-is, either-is, then-is, tagged-is, ref-is}
+use Rattle.book.specs.Decode.{nodeAt, nodes, GoodNodes}
+use Rattle.book.proofs.Decoded.{nodes-below}
+use Rattle.book.specs.declared.Node.{Node}
+use Rattle.rules.specs.Step.{leftFrom, rightFrom, kindOf}
+
+-- the left and the right of a proper node are below the count
+module _ {kinds count n : ℕ} (below : n < count) where
+  pub left-below : {at : Node} → Proper kinds count n at → leftFrom n at < count
+  left-below fail-is = below
+  left-below empty-is = below
+  left-below (token-is k) = below
+  left-below (either-is l r) = omega arith
+  left-below (then-is l r) = omega arith
+  left-below (tagged-is l t) = omega arith
+  left-below (ref-is l) = l
+
+  pub right-below : {at : Node} → Proper kinds count n at → rightFrom n at < count
+  right-below fail-is = below
+  right-below empty-is = below
+  right-below (token-is k) = below
+  right-below (either-is l r) = omega arith
+  right-below (then-is l r) = omega arith
+  right-below (tagged-is l t) = below
+  right-below (ref-is l) = below
+
+-- the kind of a proper token is below the number of kinds, and so is 0 if there is one
+pub kind-below : {kinds count n : ℕ} {at : Node} → 0 < kinds → Proper kinds count n at → kindOf at < kinds
+kind-below some fail-is = some
+kind-below some empty-is = some
+kind-below some (token-is k) = k
+kind-below some (either-is l r) = some
+kind-below some (then-is l r) = some
+kind-below some (tagged-is l t) = some
+kind-below some (ref-is l) = some
+
+-- good nodes are good nodes for 64 kinds
+pub good-for-64 : {bytes : List ℕ} {base count kinds : ℕ} → GoodNodes bytes base count kinds → GoodNodes bytes base count 64
+good-for-64 {bytes} {base} {count} {kinds} good = record {
+  within = good .within;
+  few-nodes = good .few-nodes;
+  few-kinds = omega arith;
+  proper = λ n below. wider (good .proper n below);
+}
+  where
+    wider : {n : ℕ} {at : Node} → Proper kinds count n at → Proper 64 count n at
+    wider fail-is = fail-is
+    wider empty-is = empty-is
+    wider (token-is {k = k} h) = token-is {k = k} (omega (arith, good .few-kinds))
+    wider (either-is l r) = either-is l r
+    wider (then-is l r) = then-is l r
+    wider (tagged-is l t) = tagged-is l t
+    wider (ref-is l) = ref-is l
+
+module _ {bytes : List ℕ} {base count : ℕ} (good : GoodNodes bytes base count 64) {n : ℕ} (below : n < count) {at : Node} (read : at ≡ nodeAt bytes base n) where
+  pub node-is : at ≡ nodes bytes base count n
+  node-is = read ∙ sym (nodes-below bytes base count n below)
+
+  proper-is : Proper 64 count n at
+  proper-is = rw node-is (good .proper n below)
+
+  pub left-inside : leftFrom n at < count
+  left-inside = left-below below proper-is
+
+  pub right-inside : rightFrom n at < count
+  right-inside = right-below below proper-is
+
+  pub kind-inside : kindOf at < 64
+  kind-inside = kind-below (omega arith) proper-is

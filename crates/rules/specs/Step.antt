@@ -1,0 +1,150 @@
+-- The rules as a step: what a table's facts of its left and right give a node, and what a mark gives its children.
+use Prim.Native.Nat.{ℕ, zero, suc, _+_, _*_, _/_, _%_, _<_}
+use mathlib.Core.Path.{_≡_}
+use mathlib.Core.Logic.{_≢_}
+use mathlib.Core.Bool.{Bool, cond}
+use mathlib.Core.List.{List}
+use lib.Dec.{eqb}
+use lib.ListN.{getD}
+use Rattle.kinds.specs.Kinds.{Has, everyKind, onlyKind, joined, inBoth, lowestKind}
+use Rattle.book.specs.declared.Node.{Node}
+use Rattle.book.specs.declared.Node.the-variants.{Fail, Empty, Token, Either, Then, Tagged, Ref}
+use Rattle.rules.specs.Rules.{Productive, Nullable, First, Snf, Child, Reach}
+use Rattle.rules.specs.Conflicts.{NO-CONFLICT, BOTH-NULLABLE}
+use Rattle.rules.specs.Facts.{Marked}
+use Rattle.rules.specs.Growth.{Sound, Visited, Turned}
+use Rattle.rules.specs.declared.NodeFacts.{NodeFacts}
+
+-- the left of a node, its own number where it has none
+abbrev pub leftFrom : ℕ → Node → ℕ
+leftFrom own Fail = own
+leftFrom own Empty = own
+leftFrom own (Token k) = own
+leftFrom own (Either l r) = l
+leftFrom own (Then l r) = l
+leftFrom own (Tagged l t) = l
+leftFrom own (Ref l) = l
+
+-- the right of a node, its own number where it has none
+abbrev pub rightFrom : ℕ → Node → ℕ
+rightFrom own Fail = own
+rightFrom own Empty = own
+rightFrom own (Token k) = own
+rightFrom own (Either l r) = r
+rightFrom own (Then l r) = r
+rightFrom own (Tagged l t) = own
+rightFrom own (Ref l) = own
+
+-- the kind of a token, 0 for other nodes
+abbrev pub kindOf : Node → ℕ
+kindOf Fail = 0
+kindOf Empty = 0
+kindOf (Token k) = k
+kindOf (Either l r) = 0
+kindOf (Then l r) = 0
+kindOf (Tagged l t) = 0
+kindOf (Ref l) = 0
+
+-- the facts that stand in a table for a node
+abbrev pub factsAt : List ℕ → ℕ → NodeFacts
+factsAt table n = record {
+  productive = getD table (4 * n) 0;
+  nullable = getD table (4 * n + 1) 0;
+  first = getD table (4 * n + 2) 0;
+  snf = getD table (4 * n + 3) 0;
+}
+
+-- what the rules give an either by the facts of its left and right
+abbrev pub eitherFacts : NodeFacts → NodeFacts → NodeFacts
+eitherFacts left right = record {
+  productive = joined (left .productive) (right .productive);
+  nullable = joined (left .nullable) (right .nullable);
+  first = joined (left .first) (right .first);
+  snf = joined (joined (joined (left .snf) (right .snf)) (inBoth (left .first) (right .nullable))) (inBoth (left .nullable) (right .first));
+}
+
+-- what the rules give a then by the facts of its left and right
+abbrev pub thenFacts : NodeFacts → NodeFacts → NodeFacts
+thenFacts left right = record {
+  productive = inBoth (left .productive) (right .productive);
+  nullable = inBoth (left .nullable) (right .nullable);
+  first = joined (inBoth (left .first) (right .productive)) (inBoth (left .nullable) (right .first));
+  snf = joined (inBoth (left .snf) (right .nullable)) (inBoth (left .productive) (right .snf));
+}
+
+-- what the rules give a node by the facts of its left and right
+unfoldable pub ruledOf : Node → NodeFacts → NodeFacts → NodeFacts
+ruledOf Fail left right = record { productive = 0; nullable = 0; first = 0; snf = 0 }
+ruledOf Empty left right = record { productive = everyKind; nullable = everyKind; first = 0; snf = 0 }
+ruledOf (Token k) left right = record { productive = everyKind; nullable = 0; first = onlyKind k; snf = 0 }
+ruledOf (Either l r) left right = eitherFacts left right
+ruledOf (Then l r) left right = thenFacts left right
+ruledOf (Tagged l t) left right = left
+ruledOf (Ref l) left right = left
+
+-- the four facts by number: productive 0, nullable 1, FIRST 2, SNF 3
+abbrev pub factOf : NodeFacts → ℕ → ℕ
+factOf facts zero = facts .productive
+factOf facts (suc zero) = facts .nullable
+factOf facts (suc (suc zero)) = facts .first
+factOf facts (suc (suc (suc more))) = facts .snf
+
+abbrev pub Fact : (ℕ → Node) → Node → ℕ → ℕ → Type 0
+Fact node at zero k = Productive node at
+Fact node at (suc zero) k = Nullable node at
+Fact node at (suc (suc zero)) k = First node at k
+Fact node at (suc (suc (suc more))) k = Snf node at k
+
+-- the kind belongs at a place of the table: four places a node
+pub record FactAt (node : ℕ → Node) (i k : ℕ) : Type 0 where
+  pub fact : Fact node (node (i / 4)) (i % 4) k
+
+-- the kind is among the facts given for one node, and the place is that node's
+pub record Given (n : ℕ) (facts : NodeFacts) (i k : ℕ) : Type 0 where
+  pub own : i / 4 ≡ n
+  pub given : Has (factOf facts (i % 4)) k
+
+-- the table has the facts at a node
+pub record Holds (facts : NodeFacts) (table : List ℕ) (n : ℕ) : Type 0 where
+  pub holds : (j k : ℕ) → j < 4 → Has (factOf facts j) k → Has (getD table (4 * n + j) 0) k
+
+-- the table has what the rules give a node
+abbrev pub RuleClosed : (ℕ → Node) → List ℕ → ℕ → Type 0
+RuleClosed node table n =
+    Holds (ruledOf (node n) (factsAt table (leftFrom n (node n))) (factsAt table (rightFrom n (node n)))) table n
+
+-- what is answered at an either: that both sides are nullable, before the lowest kind shared
+pub record EitherReport (both shared answer : ℕ) : Type 0 where
+  pub nullable : both ≢ 0 → answer ≡ BOTH-NULLABLE
+  pub first : both ≡ 0 → answer ≡ lowestKind shared
+
+-- what is reported at a node by the facts of its left and right
+unfoldable pub reportedOf : Node → NodeFacts → NodeFacts → ℕ
+reportedOf Fail left right = NO-CONFLICT
+reportedOf Empty left right = NO-CONFLICT
+reportedOf (Token k) left right = NO-CONFLICT
+reportedOf (Either l r) left right =
+    cond (eqb (inBoth (left .nullable) (right .nullable)) 0) (lowestKind (inBoth (left .first) (right .first))) BOTH-NULLABLE
+reportedOf (Then l r) left right = lowestKind (inBoth (left .snf) (right .first))
+reportedOf (Tagged l t) left right = NO-CONFLICT
+reportedOf (Ref l) left right = NO-CONFLICT
+
+-- a mark at a place stands for a reachable node
+pub record ReachAt (node : ℕ → Node) (start i k : ℕ) : Type 0 where
+  pub reach : Reach node start (64 * i + k)
+
+-- the marks have the children of a marked node
+pub record ChildClosed (node : ℕ → Node) (marks : List ℕ) (n : ℕ) : Type 0 where
+  pub children : (m : ℕ) → Child (node n) m → Marked marks n → Marked marks m
+
+-- a node's children have been marked if it is: from any start, all by reaching
+pub record Spread (node : ℕ → Node) (n : ℕ) (before after : List ℕ) (changed : Bool) : Type 0 where
+  pub from : (start : ℕ) → Sound (ReachAt node start) before → Visited (ReachAt node start) (ChildClosed node) n before after changed
+
+-- the children of all marked nodes have been marked: from any start, all by reaching
+pub record SpreadAll (node : ℕ → Node) (count : ℕ) (before after : List ℕ) (changed : Bool) : Type 0 where
+  pub from : (start : ℕ) → Sound (ReachAt node start) before → Turned (ReachAt node start) (ChildClosed node) count before after changed
+
+-- the set of one place or of none
+abbrev pub markOf : Bool → ℕ → ℕ
+markOf marked k = cond marked (onlyKind k) 0

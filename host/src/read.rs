@@ -1,0 +1,242 @@
+//! The reader, numbers 8 to 16: a plan run over a list of held parts.
+
+use crate::answers::*;
+use crate::book::*;
+use crate::form::{improper, settings_proper};
+
+/// Where the settings stand in a plan.
+const PLAN_SETTINGS: usize = 20;
+
+/// Where the nodes begin in a plan.
+const PLAN_NODES: usize = 24;
+
+/// The most events that are read.
+pub const MOST_EVENTS: usize = 65_535;
+
+const REFUSE: u8 = 0;
+const TAKE: u8 = 1;
+const GO_LEFT: u8 = 2;
+const HOLD_RIGHT: u8 = 3;
+const SKIP_LEFT: u8 = 4;
+const GO_RIGHT: u8 = 5;
+
+/// A plan taken apart: its settings and nodes, and its rows.
+struct Plan<'a> {
+    book: Book,
+    cells: &'a [u8],
+}
+
+/// A plan being run: the held parts, the last one held last, and the records so far.
+struct Running<'a> {
+    plan: &'a Plan<'a>,
+    slots: usize,
+    held: Vec<u16>,
+    records: Vec<u16>,
+}
+
+/// Reads a run by a plan.
+pub fn read(plan: &[u8], run: &[u8], held: &mut [u16], tree: &mut [u16]) -> Reading {
+    let outcome = records_of(plan, run, held.len());
+    held.fill(0);
+    tree.fill(0);
+    match outcome {
+        Ok(records) if records.len() <= tree.len() => {
+            tree[..records.len()].copy_from_slice(&records);
+            reading(DONE, run.len(), records.len(), 0)
+        }
+        Ok(records) => reading(NO_ROOM, 0, records.len(), 0),
+        Err(refusal) => refusal,
+    }
+}
+
+/// An answer of the reader.
+fn reading(number: u32, place: usize, records: usize, expected: u64) -> Reading {
+    Reading {
+        number,
+        place: place as u32,
+        records: records as u32,
+        expected,
+    }
+}
+
+/// The records of an accepted run, or the refusal.
+fn records_of(plan: &[u8], run: &[u8], slots: usize) -> Result<Vec<u16>, Reading> {
+    let plan = taken_apart(plan).ok_or(reading(PLAN_FORM, 0, 0, 0))?;
+    if let Some(place) = improper_cell(&plan) {
+        return Err(reading(CELL, place, 0, 0));
+    }
+    if run.len() > MOST_EVENTS {
+        return Err(reading(LONG, 0, 0, 0));
+    }
+    if slots == 0 {
+        return Err(reading(DEEP, 0, 0, 0));
+    }
+    let mut running = Running {
+        plan: &plan,
+        slots,
+        held: vec![plan.book.start],
+        records: Vec::new(),
+    };
+    for (place, &kind) in run.iter().enumerate() {
+        let expected = running.expected();
+        running
+            .event(kind)
+            .map_err(|number| refusal(number, place, expected))?;
+    }
+    let expected = running.expected();
+    running
+        .end()
+        .map_err(|number| refusal(number, run.len(), expected))?;
+    Ok(running.records)
+}
+
+/// A refusal while running, with what was expected where that is told.
+fn refusal(number: u32, place: usize, expected: u64) -> Reading {
+    let told = matches!(number, UNKNOWN | UNEXPECTED | END);
+    reading(number, place, 0, if told { expected } else { 0 })
+}
+
+/// The plan taken apart, if its length, contents, settings and nodes are right.
+fn taken_apart(plan: &[u8]) -> Option<Plan<'_>> {
+    let contents = words_of(plan.get(..PLAN_SETTINGS)?);
+    let rows_at = usize::from(contents[8]);
+    let book = Book::of(plan.get(PLAN_SETTINGS..rows_at.max(PLAN_NODES))?);
+    let cells = &plan[rows_at.max(PLAN_NODES)..];
+    let count = book.nodes.len();
+    let row_bytes = count * (usize::from(book.kinds) + 1);
+    let nodes_bytes = NODE_BYTES * count;
+    let fixed = [
+        3,
+        1,
+        PLAN_SETTINGS,
+        4,
+        2,
+        PLAN_NODES,
+        nodes_bytes,
+        3,
+        PLAN_NODES + nodes_bytes,
+        row_bytes,
+    ];
+    let right = contents.iter().map(|&word| usize::from(word)).eq(fixed)
+        && (1..=MOST_NODES).contains(&count)
+        && cells.len() == row_bytes
+        && settings_proper(&book)
+        && improper(&book).is_none();
+    right.then_some(Plan { book, cells })
+}
+
+/// The first cell that its node's type never has.
+fn improper_cell(plan: &Plan) -> Option<usize> {
+    let width = usize::from(plan.book.kinds) + 1;
+    (0..plan.cells.len()).find(|&at| {
+        let cell = plan.cells[at];
+        if at % width == width - 1 {
+            cell > 1
+        } else {
+            !cells_of(plan.book.nodes[at / width].form).contains(&cell)
+        }
+    })
+}
+
+/// The kind cells that a node of this type may have.
+pub fn cells_of(form: u16) -> &'static [u8] {
+    match form {
+        TOKEN => &[REFUSE, TAKE],
+        EITHER => &[REFUSE, GO_LEFT, GO_RIGHT],
+        THEN => &[REFUSE, HOLD_RIGHT, SKIP_LEFT],
+        TAGGED | REF => &[REFUSE, GO_LEFT],
+        _ => &[REFUSE],
+    }
+}
+
+impl Plan<'_> {
+    /// The row of a node.
+    fn row(&self, own: u16) -> &[u8] {
+        let width = usize::from(self.book.kinds) + 1;
+        &self.cells[usize::from(own) * width..][..width]
+    }
+
+    /// The cell of a node for a kind.
+    fn cell(&self, own: u16, kind: u8) -> u8 {
+        self.row(own)[usize::from(kind)]
+    }
+
+    /// Whether a node is nullable by its row.
+    fn nullable(&self, own: u16) -> bool {
+        self.row(own)[usize::from(self.book.kinds)] == 1
+    }
+}
+
+impl Running<'_> {
+    /// The FIRST set of the part held last, by its row; none if none is held.
+    fn expected(&self) -> u64 {
+        let Some(&last) = self.held.last() else {
+            return 0;
+        };
+        (0..self.plan.book.kinds as u8)
+            .filter(|&kind| self.plan.cell(last, kind) != REFUSE)
+            .map(|kind| 1 << kind)
+            .sum()
+    }
+
+    /// Takes one event, or says which refusal it is.
+    fn event(&mut self, kind: u8) -> Result<(), u32> {
+        if u16::from(kind) >= self.plan.book.kinds {
+            return Err(UNKNOWN);
+        }
+        loop {
+            let part = self.held.pop().ok_or(UNEXPECTED)?;
+            if self.plan.cell(part, kind) != REFUSE {
+                return self.walk(part, kind);
+            }
+            if !self.plan.nullable(part) {
+                return Err(UNEXPECTED);
+            }
+            self.records.push(part + EMPTY_RECORD);
+        }
+    }
+
+    /// Walks from a part down to the event.
+    fn walk(&mut self, part: u16, kind: u8) -> Result<(), u32> {
+        let mut visited = part;
+        for _ in 0..self.plan.book.nodes.len() {
+            let Node { left, right, .. } = self.plan.book.nodes[usize::from(visited)];
+            self.records.push(visited);
+            match self.plan.cell(visited, kind) {
+                TAKE => return Ok(()),
+                GO_LEFT => visited = left,
+                HOLD_RIGHT => {
+                    self.hold(right)?;
+                    visited = left;
+                }
+                SKIP_LEFT => {
+                    self.records.push(left + EMPTY_RECORD);
+                    visited = right;
+                }
+                GO_RIGHT => visited = right,
+                _ => return Err(UNEXPECTED),
+            }
+        }
+        Err(RUNAWAY)
+    }
+
+    /// Holds a part, if a slot is free.
+    fn hold(&mut self, part: u16) -> Result<(), u32> {
+        if self.held.len() == self.slots {
+            return Err(DEEP);
+        }
+        self.held.push(part);
+        Ok(())
+    }
+
+    /// Takes all held parts off at the end.
+    fn end(&mut self) -> Result<(), u32> {
+        while let Some(part) = self.held.pop() {
+            if !self.plan.nullable(part) {
+                return Err(END);
+            }
+            self.records.push(part + EMPTY_RECORD);
+        }
+        Ok(())
+    }
+}

@@ -1,0 +1,32 @@
+/* The answer numbers in words. */
+#ifndef WORDS_H
+#define WORDS_H
+
+#include <stdint.h>
+
+/* What an answer number says. */
+static inline const char *words(uint32_t number)
+{
+    static const char *const said[] = {
+        "done",
+        "LENGTH: the length is not that of a book",
+        "CONTENTS: the contents differ from those fixed by the length",
+        "SETTINGS: the number of kinds or the start is out of range",
+        "NODE: a type or field is against the table",
+        "BARREN: the start derives nothing",
+        "CONFLICT: one event of lookahead is not enough",
+        "PLAN ROOM: the plan buffer is shorter than the plan",
+        "PLAN FORM: these bytes are no plan",
+        "CELL: a cell that its node never has",
+        "LONG: more than 65535 events",
+        "DEEP: no slot is free to hold a part",
+        "UNKNOWN: no such kind",
+        "UNEXPECTED: the event is refused",
+        "END: the run ends too early",
+        "RUNAWAY: the plan walks in a circle",
+        "NO ROOM: the tree buffer is shorter than the tree",
+    };
+    return number < sizeof said / sizeof *said ? said[number] : "no such answer";
+}
+
+#endif

@@ -1,0 +1,95 @@
+/*
+ * drumbook: compiles grammar books and reads runs of events by the compiled plans.
+ *
+ * Every call ends with an answer from the list below, for all bytes that can be handed in, forged plans included. Inputs are only read.
+ * Nothing is allocated and nothing is kept between calls. All bytes of a lent buffer are written by every call that is lent one, so
+ * what it held before does not matter.
+ *
+ * The host's part: a pointer is not null and is aligned for its type, also where its length is 0; it points to as many elements as the
+ * length beside it says; and a buffer that is written overlaps no other buffer of the same call. Where a host breaks its part, nothing is
+ * promised.
+ *
+ * All lengths count elements: bytes of books, plans and runs, 16-bit words of slots and trees.
+ */
+#ifndef DRUMBOOK_H
+#define DRUMBOOK_H
+
+#include <stddef.h>
+#include <stdint.h>
+
+#ifdef __cplusplus
+extern "C" {
+#endif
+
+/* The answers' numbers. Where no place is named, the place is 0. */
+enum {
+    DRUMBOOK_DONE = 0,        /* a good form; compiled; or the run is accepted, place: its length */
+    DRUMBOOK_LENGTH = 1,      /* the book's length is not 18 + 6N for an N from 1 to 512 */
+    DRUMBOOK_CONTENTS = 2,    /* the book's contents differ from those fixed by its length */
+    DRUMBOOK_SETTINGS = 3,    /* the number of kinds is not 1 to 64, or the start is not below N */
+    DRUMBOOK_NODE = 4,        /* a type or field against the type table; place: the first such node */
+    DRUMBOOK_BARREN = 5,      /* the start can produce no run; place: the start */
+    DRUMBOOK_CONFLICT = 6,    /* a reachable conflict; place: the lowest such node; see kind */
+    DRUMBOOK_PLAN_ROOM = 7,   /* the plan buffer is shorter than the plan; see size */
+    DRUMBOOK_PLAN_FORM = 8,   /* the plan's length, contents, settings or nodes are wrong */
+    DRUMBOOK_CELL = 9,        /* a cell that its node's type never has, or a last cell above 1; place: the first, row times (K + 1), plus column */
+    DRUMBOOK_LONG = 10,       /* more than 65,535 events */
+    DRUMBOOK_DEEP = 11,       /* a part must be held and no slot is free; place: the event, 0 where there is no slot at all */
+    DRUMBOOK_UNKNOWN = 12,    /* the event's kind is not below K; place: the event */
+    DRUMBOOK_UNEXPECTED = 13, /* no lawful run goes on so; place: the event */
+    DRUMBOOK_END = 14,        /* the run ends where more was due; place: its length */
+    DRUMBOOK_RUNAWAY = 15,    /* N nodes visited at one event and another due, on forged plans only; place: the event */
+    DRUMBOOK_NO_ROOM = 16     /* accepted, but more records than the tree buffer holds; see records */
+};
+
+enum {
+    DRUMBOOK_LARGEST_BOOK = 3090,   /* bytes of the longest book */
+    DRUMBOOK_LARGEST_PLAN = 36376,  /* bytes of the longest plan: a buffer that always suffices */
+    DRUMBOOK_BOTH_NULLABLE = 255,   /* the kind of a conflict where both sides of an either are nullable */
+    DRUMBOOK_EMPTY_RECORD = 32768   /* added to the node number in the record of a part that takes no event */
+};
+
+/* What the form test answers. */
+typedef struct {
+    uint32_t number; /* DRUMBOOK_DONE, or the first of 1 to 4 that holds against the book */
+    uint32_t place;  /* with DRUMBOOK_NODE the first bad node's number, otherwise 0 */
+} drumbook_formed;
+
+/* Judges the form of a book: any bytes, of any length from 0 up. */
+drumbook_formed drumbook_form(const uint8_t *book, size_t book_len);
+
+/* What compiling answers. */
+typedef struct {
+    uint32_t number; /* DRUMBOOK_DONE, or the first of 1 to 7 that holds against the book */
+    uint32_t place;  /* the node that 4, 5 and 6 name, otherwise 0 */
+    uint32_t kind;   /* with 6 the lowest kind shared, or DRUMBOOK_BOTH_NULLABLE, which goes before a shared kind; otherwise 0 */
+    uint32_t size;   /* with 0 and 7 the plan's size in bytes, otherwise 0 */
+} drumbook_compiled;
+
+/*
+ * Compiles a book. With DRUMBOOK_DONE the first size bytes of the plan buffer are the plan and the rest is zero; with any other number
+ * the whole buffer is zero. Takes no other memory than its stack.
+ */
+drumbook_compiled drumbook_compile(const uint8_t *book, size_t book_len, uint8_t *plan, size_t plan_len);
+
+/* What reading answers. */
+typedef struct {
+    uint32_t number;   /* DRUMBOOK_DONE, or one of 8 to 16 */
+    uint32_t place;    /* the run's length with 0 and 14, the cell with 9, the event with 11, 12, 13 and 15, otherwise 0 */
+    uint32_t records;  /* with 0 and 16 how many records the tree has, otherwise 0 */
+    uint64_t expected; /* with 12, 13 and 14 the kinds the part held last could begin with, bit k for kind k; otherwise 0 */
+} drumbook_reading;
+
+/*
+ * Reads a run by a plan of exactly plan_len bytes. A run is one byte for each event, its kind. With DRUMBOOK_DONE the first records words
+ * of the tree are the derivation, top-down and left to right, a part that takes no event as one empty record, and the rest is zero; with
+ * any other number the whole tree is zero. The holding slots are zero after every call.
+ */
+drumbook_reading drumbook_read(const uint8_t *plan, size_t plan_len, const uint8_t *run, size_t run_len,
+                               uint16_t *held, size_t held_len, uint16_t *tree, size_t tree_len);
+
+#ifdef __cplusplus
+}
+#endif
+
+#endif
