@@ -31,25 +31,28 @@ finish-requires c κs = search needs
 
 refuse-requires : tie.Need-refuse-requires
 refuse-requires c κs =
-    let pre = start (c .before .before .before .before) .pre .0 in
-    (pre .runs, rw (last-read (c .before .before .before .before) .last-part .ensures) (last-node _ (pre .runs .some-node) (pre .parts)), start (c .before .before .before .before) .pre .1)
+    let v = c .before .before .before .before in
+    let pre = start v .pre .0 in
+    (pre .runs, rw (last-read v .last-part .ensures) (last-node _ (pre .runs .some-node) (pre .parts)), start v .pre .1)
 
 same-length : tie.Need-same-length
 same-length c = search needs
 
 returns : tie.Need-returns
 returns c =
-    ap (λ (r : Reading). ended r (start (c .before .before .before .before .before) .args .held .now) (stood (c .before .before .before .before .before) .tree))
-    (refusal-is _ _ _ (length (start (c .before .before .before .before .before) .args .held .now)) _ _ _ _ _ (c .refuse .ensures) (last-read (c .before .before .before .before .before) .last-part .ensures))
-    ∙ close-refused _ _ _ _ _ _ (stood (c .before .before .before .before .before)) (c .before .before .before .before .before .finish .ensures) (c .before .if1 .taken)
+    let v = c .before .before .before .before .before in
+    ap (λ (r : Reading). ended r (start v .args .held .now) (stood v .tree))
+    (refusal-is _ _ _ (length (start v .args .held .now)) _ _ _ _ _ (c .refuse .ensures) (last-read v .last-part .ensures))
+    ∙ close-refused _ _ _ _ _ _ (stood v) (v .finish .ensures) (c .before .if1 .taken)
 
 cast-t14 : tie.Need-cast-t14
 cast-t14 c = search needs
 
 cast-t15 : tie.Need-cast-t15
 cast-t15 c =
-    let args = start (c .before .before .before .before .before) .args in
-    omega (arith, finish-few (onSlots (args .plan .now) (args .nodes) (args .kinds) (length (args .held .now))) (args .count) (args .written) (args .held .now) (args .tree .now), ap (λ (s : After). s .spot .written) (c .before .before .before .before .before .finish .ensures), start (c .before .before .before .before .before) .pre .0 .few-records)
+    let v = c .before .before .before .before .before in
+    let args = start v .args in
+    omega (arith, finish-few (onSlots (args .plan .now) (args .nodes) (args .kinds) (length (args .held .now))) (args .count) (args .written) (args .held .now) (args .tree .now), ap (λ (s : After). s .spot .written) (v .finish .ensures), start v .pre .0 .few-records)
 
 same-length-2 : tie.Need-same-length-2
 same-length-2 c = search needs

@@ -80,14 +80,15 @@ cell-at-requires c κs = (c .before .before .before .before .before .before .bef
 
 walk-requires : tie.Need-walk-requires Inv-loop μ-loop
 walk-requires c κs =
-    let inv = head (c .before .before .before) .loop .inv in
-    let some = turn (c .before .before .before) .loop-test .taken in (
+    let v = c .before .before .before in
+    let inv = head v .loop .inv in
+    let some = turn v .loop-test .taken in (
       record {
-        runs = start (c .before .before .before) .pre .runs;
+        runs = start v .pre .runs;
         parts = rw (inv .safe .long) (fewer inv some);
-        few-records = omega (arith, inv .small, start (c .before .before .before) .pre .few-records);
+        few-records = omega (arith, inv .small, start v .pre .few-records);
       },
-      entry (c .before .before .before) .if1 .left,
+      entry v .if1 .left,
       last-below inv some,
     )
 
@@ -100,9 +101,10 @@ same-length-2 c = c .before .before .before .before .walk .kept .1 .1 .1 .1 .1 .
 returns-2 : tie.Need-returns-2 Inv-loop μ-loop
 unfolding planFrom
 returns-2 c =
-    let inv = head (c .before .before .before .before .before .before .before .before) .loop .inv in
+    let v = c .before .before .before .before .before .before .before .before in
+    let inv = head v .loop .inv in
     rw (inv .safe .long) at (c .before .before .before .before .walk .ensures)
-    ∙ take-walks _ _ inv (turn (c .before .before .before .before .before .before .before .before) .loop-test .taken) (λ is. c .before .before .before .before .before .before .before .if2 .taken (c .before .before .before .before .before .before .before .before .cell-at .ensures .0 ∙ is))
+    ∙ take-walks _ _ inv (turn v .loop-test .taken) (λ is. c .before .before .before .before .before .before .before .if2 .taken (v .cell-at .ensures .0 ∙ is))
 
 cell-at-requires-2 : tie.Need-cell-at-requires-2 Inv-loop μ-loop
 cell-at-requires-2 c κs = (start (c .before) .pre .runs, last-below (head (c .before) .loop .inv) (turn (c .before) .loop-test .taken), omega arith)
@@ -116,17 +118,24 @@ same-length-4 c = head (c .before .before .before) .loop .inv .tree-long
 returns-3 : tie.Need-returns-3 Inv-loop μ-loop
 unfolding planFrom
 returns-3 c =
-    take-refuses _ _ (head (c .before .before .before) .loop .inv) (turn (c .before .before .before) .loop-test .taken) (sym (c .before .before .before .cell-at .ensures .0) ∙ c .before .before .if2 .left)
+    let v = c .before .before .before in
+    take-refuses _ _ (head v .loop .inv) (turn v .loop-test .taken) (sym (v .cell-at .ensures .0) ∙ c .before .before .if2 .left)
     (ne-eqb _ _ (λ is. c .if3 .taken (c .before .cell-at2 .ensures .0 ∙ is)))
 
 add-note : tie.Need-add-note Inv-loop μ-loop
-add-note c = omega (arith, last-small (head (c .before .before .before .before)) (turn (c .before .before .before .before) .loop-test .taken))
+add-note c =
+    let v = c .before .before .before .before in
+    omega (arith, last-small (head v) (turn v .loop-test .taken))
 
 note-requires : tie.Need-note-requires Inv-loop μ-loop
-note-requires c κs = omega (arith, last-small (head (c .before .before .before .before)) (turn (c .before .before .before .before) .loop-test .taken))
+note-requires c κs =
+    let v = c .before .before .before .before in
+    omega (arith, last-small (head v) (turn v .loop-test .taken))
 
 add-records : tie.Need-add-records Inv-loop μ-loop
-add-records c = omega (arith, head (c .before .before .before .before .before .before .before) .loop .inv .small, turn (c .before .before .before .before .before .before .before) .loop-test .taken, start (c .before .before .before .before .before .before .before) .pre .few-records)
+add-records c =
+    let v = c .before .before .before .before .before .before .before in
+    omega (arith, head v .loop .inv .small, turn v .loop-test .taken, start v .pre .few-records)
 
 loop-less : tie.Need-loop-less Inv-loop μ-loop
 loop-less c = omega (arith, turn (c .before .before .before .before .before .before .before) .loop-test .taken)
@@ -134,7 +143,8 @@ loop-less c = omega (arith, turn (c .before .before .before .before .before .bef
 loop-again : tie.Need-loop-again Inv-loop μ-loop
 unfolding planFrom
 loop-again c =
-    take-passes _ _ (head (c .before .before .before .before .before .before .before) .loop .inv) (turn (c .before .before .before .before .before .before .before) .loop-test .taken) (sym (c .before .before .before .before .before .before .before .cell-at .ensures .0) ∙ c .before .before .before .before .before .before .if2 .left)
+    let v = c .before .before .before .before .before .before .before in
+    take-passes _ _ (head v .loop .inv) (turn v .loop-test .taken) (sym (v .cell-at .ensures .0) ∙ c .before .before .before .before .before .before .if2 .left)
     (eq-eqb _ _ (sym (c .before .before .before .before .before .cell-at2 .ensures .0) ∙ c .before .before .before .before .if3 .left)) _ (c .before .before .note .ensures)
 
 same-length-5 : tie.Need-same-length-5 Inv-loop μ-loop

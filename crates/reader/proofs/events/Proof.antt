@@ -81,9 +81,10 @@ event-requires c κs = ready (c .before .before .before .before .before .before 
 
 refuse-requires : tie.Need-refuse-requires Inv-loop μ-loop
 refuse-requires c κs =
-    let parts = ready (head (c .before .before .before .before .before .before)) .parts in
-    let runs = start (c .before .before .before .before .before .before) .pre .0 .runs in
-    (runs, rw (last-read (c .before .before .before .before .before .before) .last-part .ensures) (last-node _ (runs .some-node) parts), omega (arith, turn (c .before .before .before .before .before .before) .loop-test .taken, start (c .before .before .before .before .before .before) .pre .1))
+    let v = c .before .before .before .before .before .before in
+    let parts = ready (head v) .parts in
+    let runs = start v .pre .0 .runs in
+    (runs, rw (last-read v .last-part .ensures) (last-node _ (runs .some-node) parts), omega (arith, turn v .loop-test .taken, start v .pre .1))
 
 same-length : tie.Need-same-length Inv-loop μ-loop
 same-length c = c .before .before .before .before .before .before .before .event .kept .1 .1 .1 .1 .1 .1 .0 ∙ head (c .before .before .before .before .before .before .before) .loop .inv .safe .long
@@ -93,12 +94,15 @@ same-length-2 c = c .before .before .before .before .before .before .before .eve
 
 returns : tie.Need-returns Inv-loop μ-loop
 returns c =
-    ap (λ (r : Reading). ended r (stood (c .before .before .before .before .before .before .before) .held) (stood (c .before .before .before .before .before .before .before) .tree))
-    (refusal-is _ _ _ (length (start (c .before .before .before .before .before .before .before) .args .held .now)) _ _ _ _ _ (c .refuse .ensures) (last-read (c .before .before .before .before .before .before .before) .last-part .ensures))
-    ∙ run-refused _ _ _ _ _ (head (c .before .before .before .before .before .before .before) .loop .inv) (turn (c .before .before .before .before .before .before .before) .loop-test .taken) (stood (c .before .before .before .before .before .before .before)) (steps (c .before .before .before .before .before .before .before)) (c .before .if1 .taken)
+    let v = c .before .before .before .before .before .before .before in
+    ap (λ (r : Reading). ended r (stood v .held) (stood v .tree))
+    (refusal-is _ _ _ (length (start v .args .held .now)) _ _ _ _ _ (c .refuse .ensures) (last-read v .last-part .ensures))
+    ∙ run-refused _ _ _ _ _ (head v .loop .inv) (turn v .loop-test .taken) (stood v) (steps v) (c .before .if1 .taken)
 
 add-at : tie.Need-add-at Inv-loop μ-loop
-add-at c = omega (arith, turn (c .before .before .before .before .before .before) .loop-test .taken, start (c .before .before .before .before .before .before) .pre .1)
+add-at c =
+    let v = c .before .before .before .before .before .before in
+    omega (arith, turn v .loop-test .taken, start v .pre .1)
 
 loop-less : tie.Need-loop-less Inv-loop μ-loop
 loop-less c = omega (arith, turn (c .before .before .before .before .before .before) .loop-test .taken)
@@ -106,8 +110,9 @@ loop-less c = omega (arith, turn (c .before .before .before .before .before .bef
 loop-again : tie.Need-loop-again Inv-loop μ-loop
 unfolding planFrom
 loop-again c =
-    let runs = start (c .before .before .before .before .before .before) .pre .0 .runs in
-    run-goes _ _ _ _ _ (head (c .before .before .before .before .before .before) .loop .inv) (turn (c .before .before .before .before .before .before) .loop-test .taken) (stood (c .before .before .before .before .before .before)) (steps (c .before .before .before .before .before .before)) (plan-bounded runs _) (runs .few-nodes) (c .if1 .left) (c .before .before .before .before .before .before .event .kept .1 .1 .1 .1 .1 .1 .1 .0)
+    let v = c .before .before .before .before .before .before in
+    let runs = start v .pre .0 .runs in
+    run-goes _ _ _ _ _ (head v .loop .inv) (turn v .loop-test .taken) (stood v) (steps v) (plan-bounded runs _) (runs .few-nodes) (c .if1 .left) (v .event .kept .1 .1 .1 .1 .1 .1 .1 .0)
 
 close-requires : tie.Need-close-requires Inv-loop μ-loop
 close-requires c κs = (ready (c .before .before .before), omega (arith, c .before .before .before .loop .inv .within, c .before .before .before .before .before .before .before .before .pre .1))

@@ -76,7 +76,9 @@ note-requires : tie.Need-note-requires Inv-loop μ-loop
 note-requires c κs = omega (arith, last-small (head (c .before .before)) (turn (c .before .before) .loop-test .taken))
 
 add-records : tie.Need-add-records Inv-loop μ-loop
-add-records c = omega (arith, head (c .before .before .before .before .before) .loop .inv .small, turn (c .before .before .before .before .before) .loop-test .taken, start (c .before .before .before .before .before) .pre .few-records)
+add-records c =
+    let v = c .before .before .before .before .before in
+    omega (arith, head v .loop .inv .small, turn v .loop-test .taken, start v .pre .few-records)
 
 loop-less : tie.Need-loop-less Inv-loop μ-loop
 loop-less c = omega (arith, turn (c .before .before .before .before .before) .loop-test .taken)
@@ -84,8 +86,9 @@ loop-less c = omega (arith, turn (c .before .before .before .before .before) .lo
 loop-again : tie.Need-loop-again Inv-loop μ-loop
 unfolding planFrom
 loop-again c =
-    finish-passes _ (head (c .before .before .before .before .before) .loop .inv) (turn (c .before .before .before .before .before) .loop-test .taken)
-    (eq-eqb _ _ (sym (c .before .before .before .before .before .cell-at .ensures .0) ∙ c .before .before .before .before .if1 .left)) _ (c .before .before .note .ensures)
+    let v = c .before .before .before .before .before in
+    finish-passes _ (head v .loop .inv) (turn v .loop-test .taken)
+    (eq-eqb _ _ (sym (v .cell-at .ensures .0) ∙ c .before .before .before .before .if1 .left)) _ (c .before .before .note .ensures)
 
 same-length-2 : tie.Need-same-length-2 Inv-loop μ-loop
 same-length-2 c = c .before .loop .inv .tree-long

@@ -161,7 +161,9 @@ slice-write-held : tie.Need-slice-write-held Inv-loop μ-loop
 slice-write-held c = c .before .if1 .left
 
 add-parts : tie.Need-add-parts Inv-loop μ-loop
-add-parts c = omega (arith, c .before .if1 .left, head (c .before .before .before) .loop .inv .held-long, start (c .before .before .before) .good)
+add-parts c =
+    let v = c .before .before .before in
+    omega (arith, c .before .if1 .left, head v .loop .inv .held-long, start v .good)
 
 left-at-requires-2 : tie.Need-left-at-requires-2 Inv-loop μ-loop
 left-at-requires-2 c κs = node-inside (head (c .before .before .before))
@@ -170,10 +172,12 @@ loop-less-2 : tie.Need-loop-less-2 Inv-loop μ-loop
 loop-less-2 c = omega (arith, turn (c .before .before .before .before) .loop-test .taken)
 
 loop-again-2 : tie.Need-loop-again-2 Inv-loop μ-loop
-loop-again-2 c = walk-holds _ _ _ _ _ _ (head (c .before .before .before .before) .loop .inv) _ (one-more (turn (c .before .before .before .before))) _ (c .before .before .before .before .before .before .before .note .ensures) (bounded (head (c .before .before .before .before))) _ _
-    (cell-is (c .before .before .before .before) ∙ c .before .before .before .match .keys3) (c .before .before .if1 .left)
-    (c .left-at2 .ensures ∙ left-of (c .before .before .before .before) (omega (arith, c .before .before .before .match .keys3)))
-    (c .before .right-at .ensures ∙ right-of (c .before .before .before .before) (omega (arith, c .before .before .before .match .keys3)))
+loop-again-2 c =
+    let v = c .before .before .before .before in
+    walk-holds _ _ _ _ _ _ (head v .loop .inv) _ (one-more (turn v)) _ (c .before .before .before .before .before .before .before .note .ensures) (bounded (head v)) _ _
+    (cell-is v ∙ c .before .before .before .match .keys3) (c .before .before .if1 .left)
+    (c .left-at2 .ensures ∙ left-of v (omega (arith, c .before .before .before .match .keys3)))
+    (c .before .right-at .ensures ∙ right-of v (omega (arith, c .before .before .before .match .keys3)))
 
 left-at-requires-3 : tie.Need-left-at-requires-3 Inv-loop μ-loop
 left-at-requires-3 c κs = node-inside (head (c .before .before))
@@ -185,7 +189,9 @@ note-requires-2 : tie.Need-note-requires-2 Inv-loop μ-loop
 note-requires-2 c κs = omega (arith, c .left-at3 .ensures, left-small (c .before .before .before) (omega (arith, c .before .before .match .keys4)))
 
 add-records-2 : tie.Need-add-records-2 Inv-loop μ-loop
-add-records-2 c = omega (arith, head (c .before .before .before .before .before .before) .loop .inv .small, turn (c .before .before .before .before .before .before) .loop-test .taken, start (c .before .before .before .before .before .before) .pre .0 .few-records, start (c .before .before .before .before .before .before) .pre .0 .runs .few-nodes)
+add-records-2 c =
+    let v = c .before .before .before .before .before .before in
+    omega (arith, head v .loop .inv .small, turn v .loop-test .taken, start v .pre .0 .few-records, start v .pre .0 .runs .few-nodes)
 
 right-at-requires-2 : tie.Need-right-at-requires-2 Inv-loop μ-loop
 right-at-requires-2 c κs = node-inside (head (c .before .before .before .before .before .before))
@@ -194,10 +200,12 @@ loop-less-3 : tie.Need-loop-less-3 Inv-loop μ-loop
 loop-less-3 c = omega (arith, turn (c .before .before .before .before .before .before .before) .loop-test .taken)
 
 loop-again-3 : tie.Need-loop-again-3 Inv-loop μ-loop
-loop-again-3 c = walk-skips _ _ _ _ _ _ (head (c .before .before .before .before .before .before .before) .loop .inv) _ (one-more (turn (c .before .before .before .before .before .before .before))) _ (c .before .before .before .before .before .before .before .before .before .before .note .ensures) (bounded (head (c .before .before .before .before .before .before .before))) _ _ _
-    (cell-is (c .before .before .before .before .before .before .before) ∙ c .before .before .before .before .before .before .match .keys4)
-    (c .before .before .before .before .left-at3 .ensures ∙ left-of (c .before .before .before .before .before .before .before) (omega (arith, c .before .before .before .before .before .before .match .keys4)))
-    (c .right-at2 .ensures ∙ right-of (c .before .before .before .before .before .before .before) (omega (arith, c .before .before .before .before .before .before .match .keys4)))
+loop-again-3 c =
+    let v = c .before .before .before .before .before .before .before in
+    walk-skips _ _ _ _ _ _ (head v .loop .inv) _ (one-more (turn v)) _ (c .before .before .before .before .before .before .before .before .before .before .note .ensures) (bounded (head v)) _ _ _
+    (cell-is v ∙ c .before .before .before .before .before .before .match .keys4)
+    (c .before .before .before .before .left-at3 .ensures ∙ left-of v (omega (arith, c .before .before .before .before .before .before .match .keys4)))
+    (c .right-at2 .ensures ∙ right-of v (omega (arith, c .before .before .before .before .before .before .match .keys4)))
     (c .before .before .before .note2 .ensures)
 
 right-at-requires-3 : tie.Need-right-at-requires-3 Inv-loop μ-loop
