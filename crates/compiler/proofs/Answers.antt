@@ -4,9 +4,9 @@ use native.Mathlib.Omega.{arith}
 use borrow.Author.Tests.{ltb-true, lt-ltb}
 use lib.Dec.{ltb}
 use mathlib.Core.Path.{_≡_, refl, sym, _∙_, ap, ap₂, subst, subst₃}
-use mathlib.Core.Bool.{Bool, true, false, true≢false}
+use mathlib.Core.Bool.{true, false, true≢false}
 use mathlib.Core.List.{List, _++_}
-use mathlib.Core.Logic.{_↔_, _≢_}
+use mathlib.Core.Logic.{_↔_}
 use lib.ListN.{length, getD, length-replicate}
 use Rattle.words.specs.Words.{u16At, zeros}
 use Rattle.kinds.specs.Kinds.{Has, has?}
@@ -15,19 +15,19 @@ use Rattle.rules.proofs.Laws.{has-below}
 use Rattle.words.proofs.Tests.{both, joined}
 use Rattle.book.specs.declared.Node.{Node}
 use Rattle.book.specs.declared.Judged.{Judged}
-use Rattle.book.specs.Book.{Book, WellFormed, Proper, fail-is, empty-is, token-is, either-is, then-is, tagged-is, ref-is}
+use Rattle.book.specs.Book.{WellFormed, Proper, fail-is, empty-is, token-is, either-is, then-is, tagged-is, ref-is}
 use Rattle.book.specs.Decode.{nodes, GoodNodes}
 use Rattle.book.specs.Form.{DONE, settingsAt, nodesAt, countOf, formOf, bookOf}
-use Rattle.book.proofs.Decoded.{Formed, formed, well-formed}
+use Rattle.book.proofs.Decoded.{formed, well-formed}
 use Rattle.rules.specs.Rules.{Productive, Nullable, First, Reach}
-use Rattle.rules.specs.Facts.{Facts, Reached, Marked as Among}
+use Rattle.rules.specs.Facts.{Reached, Marked as Among}
 use Rattle.rules.specs.Conflicts.{Reported, ConflictAt, LowestConflict}
-use Rattle.plan.specs.Cells.{Marks, Marked}
+use Rattle.plan.specs.Cells.{Marked}
 use Rattle.plan.specs.Form.{planSize}
 use Rattle.plan.specs.Bytes.{planBytes}
 use Rattle.plan.specs.Table.{marksOf, firstSet, nullSet}
 use Rattle.compiler.specs.declared.Compiled.{Compiled}
-use Rattle.compiler.specs.Compiles.{Compiles, malformed, barren, conflict, no-room, done, answer, BARREN, CONFLICT, PLAN-ROOM, Fruitful, Free, sizeOf}
+use Rattle.compiler.specs.Compiles.{Compiles, malformed, barren, conflict, no-room, done, answer, BARREN, CONFLICT, PLAN-ROOM, Fruitful, sizeOf}
 use Rattle.compiler.specs.Stages.{Clear, GoodForm, Known, Sound}
 use Rattle.compiler.proofs.Bounds.{named-below, first-kind, reported-small, reach-below}
 

@@ -1,8 +1,8 @@
 -- What stands below what in a well-formed book: children and reachable nodes below the count, kinds of FIRST below the number of kinds.
-use Prim.Native.Nat.{ℕ, _≤_, _<_}
+use Prim.Native.Nat.{ℕ, _<_}
 use native.Mathlib.Omega.{arith}
 use native.Mathlib.Decide.{decLt}
-use mathlib.Core.Path.{_≡_, refl, subst}
+use mathlib.Core.Path.{subst}
 use Rattle.book.specs.declared.Node.{Node}
 use Rattle.book.specs.declared.Node.the-variants.{Fail}
 use Rattle.book.specs.Book.{Book, WellFormed, Proper, either-is, then-is, tagged-is, ref-is}

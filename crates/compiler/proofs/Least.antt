@@ -3,18 +3,15 @@
 use Prim.Native.Nat.{ℕ, zero, suc, _+_, _≤_, _<_}
 use native.Mathlib.Omega.{arith}
 use native.Mathlib.Decide.{ℕ-discrete}
-use mathlib.Core.Path.{_≡_, refl, sym, _∙_, ap}
-use mathlib.Core.Bool.{Bool, true, false, cond, _||_, true≢false, false≢true}
+use mathlib.Core.Path.{_≡_, refl, ap}
+use mathlib.Core.Bool.{Bool, true, false, cond, _||_, false≢true}
 use mathlib.Core.Logic.{_↔_, _⊎_, inl, inr, ⊎-elim}
+pub use Rattle.rules.proofs.Growing.{or-true as or-cases}
 
 -- a test that says of each number whether something holds
 pub record Decided (Of : ℕ → Type 0) : Type 0 where
   pub test : ℕ → Bool
   pub test-is : (i : ℕ) → (test i ≡ true) ↔ Of i
-
-pub or-cases : (a b : Bool) → (a || b) ≡ true → (a ≡ true) ⊎ (b ≡ true)
-or-cases true b e = inl refl
-or-cases false b e = inr e
 
 pub or-left : (a b : Bool) → a ≡ true → (a || b) ≡ true
 or-left a b e = rw e

@@ -1,31 +1,27 @@
 -- Demand 2 from what compiling comes to: given plan room enough, a well-formed book passes exactly when its start can produce some run
 -- and no node reachable from the start has a conflict; its plan is the one that the rules give.
-use Prim.Native.Nat.{ℕ, zero, suc, _+_, _-_, _≤_, _<_}
+use Prim.Native.Nat.{ℕ, _+_, _-_, _≤_, _<_}
 use native.Mathlib.Omega.{arith}
-use borrow.Author.Tests.{le-ltb}
 use native.Mathlib.Nat.{add-mul, mul-le-mul-right}
 use native.Mathlib.Numerals.{add-one}
-use mathlib.Core.Bool.{cond}
-use lib.ListN.{length, getD, List·getD-append}
-use mathlib.Core.Path.{_≡_, refl, sym, _∙_, ap}
+use mathlib.Core.Bool.{Bool, true, false, cond}
+use lib.Dec.{ltb}
+use lib.ListN.{length, getD, length-append, length-replicate, List·getD-append}
+use mathlib.Core.Path.{_≡_, refl, _∙_, ap}
 use mathlib.Core.Logic.{_↔_, _≢_}
-use mathlib.Core.List.{List, [], _∷_, _++_}
-use Rattle.words.specs.Words.{u16At, zeros}
-use Rattle.book.specs.declared.Node.{Node}
-use Rattle.book.specs.declared.Node.the-variants.{Fail, Empty}
-use Rattle.book.specs.Book.{Book}
-use Rattle.book.specs.Decode.{nodes, nodeAt, nodeGood, firstBad}
-use Rattle.book.specs.Form.{DONE, formOf, bookOf}
-use Rattle.rules.specs.Rules.{p-empty}
-use Rattle.rules.proofs.Growing.{blank-zeros}
+use mathlib.Core.List.{List, _++_}
+use Rattle.words.specs.Words.{zeros}
+use Rattle.book.specs.Form.{DONE, LENGTH, CONTENTS, SETTINGS, NODE, settingsAt, countOf, judged, lengthGood, contentsGood, settingsGood, formOf, bookOf}
+use Rattle.book.proofs.Laws.{bad-node}
 use Rattle.book.proofs.Decoded.{Formed, formed}
 use Rattle.plan.specs.Cells.{Marks, Marked, cellOf}
 use Rattle.plan.specs.Form.{rowAt, planSize, cellAt}
 use Rattle.plan.proofs.PlanBytes.{size-is, cell-is, mark-is}
-use Rattle.plan.specs.Bytes.{planBytes, planContents, wordBytes}
+use Rattle.plan.specs.Bytes.{planBytes}
 use Rattle.compiler.specs.declared.Compiled.{Compiled}
-use Rattle.compiler.specs.Compiles.{Compiles, malformed, barren, conflict, no-room, done, Fruitful, Free, sizeOf}
+use Rattle.compiler.specs.Compiles.{Compiles, malformed, barren, conflict, no-room, done, Fruitful, Free, PLAN-ROOM, sizeOf}
 use Rattle.compiler.proofs.Unique.{reported-conflict, marks-unique}
+use Rattle.compiler.proofs.Some.{compiles-some}
 
 -- what is so where a book passes
 pub record Passed (bytes : List ℕ) (room : ℕ) (plan : List ℕ) : Type 0 where
@@ -76,6 +72,64 @@ module _ {bytes : List ℕ} {room : ℕ} where
       → p ≡ planBytes bytes marks ++ zeros (room - sizeOf (bookOf bytes))
   passed-plan c d marked = rw (marks-unique marked (passed c d .marked)) (passed c d .plan-is)
 
+-- exactly the well-formed books whose start can produce some run, with no reachable conflict, pass where there is room enough
+pub books-pass : (bytes : List ℕ) (room : ℕ)
+    → formOf bytes .number ≡ DONE
+    → sizeOf (bookOf bytes) ≤ room
+    → ((a : Compiled) × (p : List ℕ) × Compiles bytes room a p × (a .number ≡ DONE)) ↔ (Fruitful (bookOf bytes) × Free (bookOf bytes))
+books-pass bytes room form fits = (
+  (λ (a, p, c, good). (passed c good .fruitful, passed c good .free)),
+  (λ h. let (a, p, c) = compiles-some bytes room in (a, p, c, free-passes c form fits h)),
+)
+
+-- whatever the tests of a book's form say, the number is at most 4
+tests-listed : (long contents settings bad : Bool) (place : ℕ)
+    → cond long (cond contents (cond settings (cond bad (judged NODE place) (judged DONE 0)) (judged SETTINGS 0)) (judged CONTENTS 0))
+    (judged LENGTH 0) .number
+    ≤ NODE
+tests-listed false contents settings bad place = omega arith
+tests-listed true false settings bad place = omega arith
+tests-listed true true false bad place = omega arith
+tests-listed true true true false place = omega arith
+tests-listed true true true true place = omega arith
+
+form-listed : (bytes : List ℕ) → formOf bytes .number ≤ NODE
+unfolding formOf
+form-listed bytes =
+    let count = countOf (length bytes) in
+    tests-listed (lengthGood (length bytes)) (contentsGood bytes) (settingsGood bytes settingsAt count) (ltb (bad-node bytes) count)
+    (bad-node bytes)
+
+-- every answer's number is on the list: 0 to 7
+pub answer-listed : {bytes : List ℕ} {room : ℕ} {a : Compiled} {p : List ℕ} → Compiles bytes room a p → a .number ≤ PLAN-ROOM
+answer-listed {bytes} (malformed _) = omega (arith, form-listed bytes)
+answer-listed (barren _ _) = omega arith
+answer-listed (conflict _ _ _ _ _) = omega arith
+answer-listed (no-room _ _ _ _) = omega arith
+answer-listed (done _ _ _ _ _) = omega arith
+
+-- a refusal leaves the plan buffer as zeros
+pub refused-clear : {bytes : List ℕ} {room : ℕ} {a : Compiled} {p : List ℕ} → Compiles bytes room a p → a .number ≢ DONE → p ≡ zeros room
+refused-clear (malformed _) refused = refl
+refused-clear (barren _ _) refused = refl
+refused-clear (conflict _ _ _ _ _) refused = refl
+refused-clear (no-room _ _ _ _) refused = refl
+refused-clear (done _ _ _ _ _) refused = absurd (refused refl)
+
+plan-long : (bytes : List ℕ) (marks : Marks) → Formed bytes → length (planBytes bytes marks) ≡ sizeOf (bookOf bytes)
+unfolding bookOf
+plan-long bytes marks form = size-is bytes marks form
+
+-- the plan buffer keeps its length
+pub room-kept : {bytes : List ℕ} {room : ℕ} {a : Compiled} {p : List ℕ} → Compiles bytes room a p → length p ≡ room
+room-kept {room = room} (malformed _) = length-replicate room 0
+room-kept {room = room} (barren _ _) = length-replicate room 0
+room-kept {room = room} (conflict _ _ _ _ _) = length-replicate room 0
+room-kept {room = room} (no-room _ _ _ _) = length-replicate room 0
+room-kept {bytes} {room} (done {marks} form _ _ fits _) =
+    length-append (planBytes bytes marks) (zeros (room - sizeOf (bookOf bytes)))
+    ∙ omega (arith, plan-long bytes marks (formed bytes form), length-replicate {A = ℕ} (room - sizeOf (bookOf bytes)) 0)
+
 -- the cells of a plan stand within it
 cell-within : (count kinds n column : ℕ) → n < count → column < kinds + 1 → rowAt count kinds n + column < planSize count kinds
 cell-within count kinds n column below within =
@@ -110,60 +164,3 @@ module _ {bytes : List ℕ} {room : ℕ} {a : Compiled} {p : List ℕ}
       → cellAt p (bookOf bytes .count) (bookOf bytes .kinds) n (bookOf bytes .kinds) ≡ cond (marks .null n) 1 0
   unfolding bookOf
   passed-last n below = cell-first n (bookOf bytes .kinds) below (omega arith) ∙ mark-is bytes marks form n below
-
--- a book of one node of a type with no fields, over one kind
-abbrev lone : ℕ → List ℕ
-lone type = 2 ∷ 0 ∷ 1 ∷ 0 ∷ 14 ∷ 0 ∷ 4 ∷ 0 ∷ 2 ∷ 0 ∷ 18 ∷ 0 ∷ 6 ∷ 0 ∷ 1 ∷ 0 ∷ 0 ∷ 0 ∷ type ∷ 0 ∷ 0 ∷ 0 ∷ 0 ∷ 0 ∷ []
-
-empty-formed : formOf (lone 1) .number ≡ DONE
-unfolding formOf u16At nodeGood firstBad
-empty-formed = refl
-
-fail-formed : formOf (lone 0) .number ≡ DONE
-unfolding formOf u16At nodeGood firstBad
-fail-formed = refl
-
-empty-fruitful : Fruitful (bookOf (lone 1))
-unfolding bookOf nodes nodeAt u16At
-empty-fruitful = p-empty
-
-empty-free : Free (bookOf (lone 1))
-unfolding bookOf nodes nodeAt u16At
-empty-free zero reach = elim [ ]
-empty-free (suc m) reach = rw (le-ltb (suc m) 1 (omega arith)) (elim [ ])
-
-fail-barren : Fruitful (bookOf (lone 0)) → ⊥
-unfolding bookOf nodes nodeAt u16At
-fail-barren = elim [ ]
-
--- a plan begins with the number of its sections
-plan-head : (bytes : List ℕ) (marks : Marks) (rest : List ℕ) → getD (planBytes bytes marks ++ rest) 0 0 ≡ 3
-unfolding planBytes planContents wordBytes
-plan-head bytes marks rest = refl
-
-module _
-    (answers : List ℕ → ℕ → Compiled)
-    (plans : List ℕ → ℕ → List ℕ)
-    (meets : (bytes : List ℕ) (room : ℕ) → Compiles bytes room (answers bytes room) (plans bytes room)) where
-  -- a book of one node that is empty passes
-  empty-passes : answers (lone 1) (sizeOf (bookOf (lone 1))) .number ≡ DONE
-  empty-passes = free-passes (meets _ _) empty-formed (omega arith) (empty-fruitful, empty-free)
-
-  -- a compiler does not refuse every well-formed book with room enough
-  pub not-all-refused :
-      ((bytes : List ℕ) (room : ℕ) → formOf bytes .number ≡ DONE → sizeOf (bookOf bytes) ≤ room → answers bytes room .number ≢ DONE) → ⊥
-  not-all-refused refuses = refuses (lone 1) (sizeOf (bookOf (lone 1))) empty-formed (omega arith) empty-passes
-
-  -- nor passes every well-formed book with room enough
-  pub not-all-passed :
-      ((bytes : List ℕ) (room : ℕ) → formOf bytes .number ≡ DONE → sizeOf (bookOf bytes) ≤ room → answers bytes room .number ≡ DONE) → ⊥
-  not-all-passed passes =
-      fail-barren (passed (meets _ _) (passes (lone 0) (sizeOf (bookOf (lone 0))) fail-formed (omega arith)) .fruitful)
-
-  -- nor leaves the plan buffer clear for every book
-  pub not-all-clear : ((bytes : List ℕ) (room : ℕ) → plans bytes room ≡ zeros room) → ⊥
-  not-all-clear clear =
-      let room = sizeOf (bookOf (lone 1)) in
-      let here = passed (meets (lone 1) room) empty-passes in
-      let head = ap (λ p. getD p 0 0) (sym (here .plan-is) ∙ clear (lone 1) room) in
-      absurd (omega (arith, head, plan-head (lone 1) (here .marks) (zeros (room - room)), blank-zeros room .zeros 0))

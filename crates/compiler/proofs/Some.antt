@@ -1,11 +1,11 @@
 -- Compiling has an answer, for all bytes and any plan room.
-use Prim.Native.Nat.{ℕ, zero, suc, _+_, _-_, _≤_, _<_}
+use Prim.Native.Nat.{ℕ, zero, suc, _<_}
 use native.Mathlib.Omega.{arith}
 use native.Mathlib.Decide.{decLt, ℕ-discrete}
-use mathlib.Core.Path.{_≡_, refl, sym, _∙_, ap}
-use mathlib.Core.Bool.{Bool, true, false, true≢false}
-use mathlib.Core.List.{List, _++_}
-use mathlib.Core.Logic.{_↔_, _⊎_, inl, inr, ⊎-elim}
+use mathlib.Core.Path.{_≡_, sym, _∙_}
+use mathlib.Core.Bool.{true≢false}
+use mathlib.Core.List.{List}
+use mathlib.Core.Logic.{_⊎_, inl, inr, ⊎-elim}
 use Rattle.book.specs.declared.Node.{Node}
 use Rattle.book.specs.declared.Node.the-variants.{Fail, Empty, Token, Either, Then, Tagged, Ref}
 use Rattle.book.specs.Book.{Book, WellFormed}
@@ -17,7 +17,8 @@ use Rattle.plan.specs.Cells.{Marks, Marked}
 use Rattle.compiler.specs.declared.Compiled.{Compiled}
 use Rattle.compiler.specs.Compiles.{Compiles, malformed, barren, conflict, no-room, done, Fruitful, Free, sizeOf}
 use Rattle.compiler.proofs.Least.{Decided, truth}
-use Rattle.compiler.proofs.Decisions.{productive-decided, nullable-decided, first-decided, snf-decided, reach-decided}
+use Rattle.compiler.proofs.Decisions.{productive-decided, nullable-decided, first-decided, snf-decided}
+use Rattle.compiler.proofs.Reaching.{reach-decided}
 use Rattle.compiler.proofs.Bounds.{first-kind, reach-below}
 use Rattle.compiler.proofs.Unique.{reported-conflict}
 

@@ -1,15 +1,15 @@
 -- Compiling has one answer: the kind answered, the marks and with them the plan's bytes are determined, and no two rows of the table
 -- of answers hold together.
-use Prim.Native.Nat.{ℕ, _-_, _≤_, _<_}
+use Prim.Native.Nat.{ℕ, _-_, _<_}
 use native.Mathlib.Omega.{arith}
 use mathlib.Core.Path.{_≡_, refl, sym, ap, ap₂, subst}
-use mathlib.Core.Bool.{Bool, true, false, true≢false}
-use mathlib.Core.Logic.{_↔_, _≢_, _⊎_, inl, inr}
+use mathlib.Core.Bool.{Bool, true, false}
+use mathlib.Core.Logic.{_↔_}
 use mathlib.Core.List.{List, _++_}
 use Rattle.words.specs.Words.{zeros}
 use Rattle.book.specs.declared.Node.{Node}
 use Rattle.book.specs.Book.{Book}
-use Rattle.book.specs.Form.{DONE, formOf, bookOf}
+use Rattle.book.specs.Form.{bookOf}
 use Rattle.rules.specs.Rules.{Conflict, c-nullable, c-first, c-follow, Reach}
 use Rattle.rules.specs.Conflicts.{LowestKind, Reported, both-nullable, in-both-first, in-snf-and-first}
 use Rattle.plan.specs.Cells.{Marks, Marked}

@@ -1,11 +1,9 @@
 -- Laws of inputs that are whole, and of what the program writes for an input.
-use Prim.Native.Nat.{ℕ, _+_, _-_, _≤_, _<_}
+use Prim.Native.Nat.{ℕ, _+_, _-_, _≤_}
 use native.Mathlib.Omega.{arith}
 use mathlib.Core.Path.{_≡_, refl, sym, ap, _∙_}
-use mathlib.Core.Logic.{_≢_}
 use mathlib.Core.Bool.{Bool, true, false, cond}
 use mathlib.Core.List.{List}
-use lib.Dec.{ltb}
 use lib.ListN.{length, take, drop, length-drop}
 use lib.Seq.{take-all, length-take-le}
 use borrow.Author.Tests.{ltb-false}
@@ -14,7 +12,6 @@ use Rattle.book.specs.Form.{DONE}
 use Rattle.compiler.specs.declared.Compiled.{Compiled}
 use Rattle.compiler.specs.Compiles.{Compiles, malformed, barren, conflict, no-room, done}
 use Rattle.reader.specs.Reads.{readOf}
-use Rattle.listed.specs.declared.Shape.{Shape}
 use Rattle.listed.specs.declared.Shape.the-variants.{TooLong, TooShort, Whole}
 use Rattle.listed.specs.Lines.{Put}
 use Rattle.listed.specs.Listing.{
@@ -41,15 +38,21 @@ pub record Full (input : List ℕ) : Type 0 where
   pub book : 2 + bookSize input ≤ length input
   pub events : length input ≤ 2 + bookSize input + eventRoom
 
--- the first test that holds decides
+long-whole : TooLong ≡ Whole → ⊥
+long-whole e = let z : _≡_ {A = ℕ} 0 1 = cc in omega arith
+
+short-whole : TooShort ≡ Whole → ⊥
+short-whole e = let z : _≡_ {A = ℕ} 0 1 = cc in omega arith
+
+-- the first test that holds decides: of a whole input none does
 all-fail : (a b c d : Bool)
     → cond a TooShort (cond b TooLong (cond c TooShort (cond d TooLong Whole))) ≡ Whole
     → (a ≡ false) × (b ≡ false) × (c ≡ false) × (d ≡ false)
 all-fail false false false false e = (refl, refl, refl, refl)
-all-fail false false false true e = absurd (let z : _≡_ {A = ℕ} 0 1 = cc in omega arith)
-all-fail false false true d e = absurd (let z : _≡_ {A = ℕ} 0 1 = cc in omega arith)
-all-fail false true c d e = absurd (let z : _≡_ {A = ℕ} 0 1 = cc in omega arith)
-all-fail true b c d e = absurd (let z : _≡_ {A = ℕ} 0 1 = cc in omega arith)
+all-fail false false false true e = absurd (long-whole e)
+all-fail false false true d e = absurd (short-whole e)
+all-fail false true c d e = absurd (long-whole e)
+all-fail true b c d e = absurd (short-whole e)
 
 -- an output into which what the program writes was put
 pub put-listed : {input out end bytes : List ℕ} {last : ℕ} → Put out end 0 last bytes → Lists input bytes → Listed input out end last
@@ -97,7 +100,7 @@ module _ (input : List ℕ) (whole : shapeOf input ≡ Whole) where
         → room ≡ planRoom
         → Compiles (take (2 + size - 2) (drop 2 input)) room answer plan
         → Compiles (bookIn input) planRoom answer plan
-    book-compiled {answer = answer} {plan} held made = rw (book-part, held) at made
+    book-compiled held made = rw (book-part, held) at made
 
     -- what reading the rest of the input comes to
     pub run-listed : {out end plan : List ℕ} {last : ℕ} {answer : Compiled}

@@ -1,16 +1,16 @@
 -- Laws of bytes put into a buffer, of decimal digits and of record lines.
-use Prim.Native.Nat.{ℕ, zero, suc, _+_, _*_, _-_, _/_, _%_, _^_, _≤_, _<_}
+use Prim.Native.Nat.{ℕ, zero, suc, _+_, _-_, _/_, _^_, _≤_, _<_}
 use native.Mathlib.Omega.{arith}
 use native.Mathlib.Nat.{add-suc, suc-add, add-zero, add-assoc}
 use native.Mathlib.Numerals.{add-one}
 use mathlib.Core.Path.{_≡_, refl, sym, ap, _∙_}
-use mathlib.Core.Bool.{Bool, true, false, cond}
+use mathlib.Core.Bool.{Bool, true, false}
 use mathlib.Core.List.{List, [], _∷_, _++_, append-assoc, append-nil}
 use lib.Dec.{ltb}
 use lib.ListN.{length, getD, set, take, drop, length-append}
 use lib.Seq.{sets, length-sets, sets-eq, take-suc, take-all, take-at, drop-at}
 use borrow.Author.Tests.{lt-ltb, le-ltb, ltb-true, ltb-false}
-use Rattle.listed.specs.Lines.{Put, digit, digitsBy, digitsOf, spaced, recordText, recordLine, recordLines, refusedLine, acceptedLines, lineFeed}
+use Rattle.listed.specs.Lines.{Put, digit, digitsBy, digitsOf, spaced, recordText, recordLine, recordLines}
 
 -- ---- bytes put into a buffer
 
@@ -38,20 +38,22 @@ module _ {out mid : List ℕ} {at next : ℕ} {xs : List ℕ} (p : Put out mid a
         is = rw (sets-append xs ys out at, ← p .is, ← p .moved) (q .is);
       }
 
--- what stands at the front of a buffer into which bytes were put there
-pub put-taken : {out end bytes : List ℕ} {last : ℕ} → Put out end 0 last bytes → take last end ≡ bytes
-put-taken {out} {bytes = bytes} {last} p =
-    let at-end : length bytes ≡ last = omega (arith, p .moved) in
-    let room : 0 + length bytes ≤ length out = omega (arith, p .moved, p .within) in
-    rw (p .is, sets-eq bytes out 0 room) (take-at bytes _ _ at-end)
+-- a buffer into which bytes were put at its front
+module _ {out end bytes : List ℕ} {last : ℕ} (p : Put out end 0 last bytes) where
+  put-size : length bytes ≡ last
+  put-size = omega (arith, p .moved)
 
--- what stands after them
-pub put-rest : {out end bytes : List ℕ} {last : ℕ} → Put out end 0 last bytes → drop last end ≡ drop last out
-put-rest {out} {bytes = bytes} {last} p =
-    let at-end : length bytes ≡ last = omega (arith, p .moved) in
-    let room : 0 + length bytes ≤ length out = omega (arith, p .moved, p .within) in
-    let same : 0 + length bytes ≡ last = omega (arith, p .moved) in
-    rw (p .is, sets-eq bytes out 0 room, same) (drop-at bytes _ _ at-end)
+  put-front : end ≡ bytes ++ drop last out
+  put-front =
+      let from : 0 + length bytes ≡ last = omega (arith, p .moved) in
+      p .is ∙ rw (sets-eq bytes out 0 (omega (arith, p .moved, p .within)), from)
+
+  -- they stand there, and what was behind them still does
+  pub put-taken : take last end ≡ bytes
+  put-taken = ap (take last) put-front ∙ take-at bytes (drop last out) last put-size
+
+  pub put-rest : drop last end ≡ drop last out
+  put-rest = ap (drop last) put-front ∙ drop-at bytes (drop last out) last put-size
 
 -- one byte more of those that are put
 pub put-more : {out mid : List ℕ} {at i : ℕ} (bytes : List ℕ)

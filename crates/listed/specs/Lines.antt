@@ -1,5 +1,5 @@
 -- The lines that the listing program writes, as lists of bytes.
-use Prim.Native.Nat.{ℕ, zero, suc, _+_, _-_, _/_, _%_, _≤_}
+use Prim.Native.Nat.{ℕ, zero, suc, _+_, _*_, _-_, _/_, _%_, _≤_}
 use mathlib.Core.Path.{_≡_}
 use mathlib.Core.Bool.{cond}
 use mathlib.Core.List.{List, [], _∷_, _++_}
@@ -36,6 +36,19 @@ lineFeed = 10 ∷ []
 unfoldable pub spaced : ℕ → List ℕ
 spaced value = 32 ∷ digitsOf value
 
+-- the most bytes of a space and a number of 64 bits, of a refusal's line, of a record's line, and of an accepted run's lines
+abbrev pub spacedRoom : ℕ
+spacedRoom = 21
+
+abbrev pub refusedRoom : ℕ
+refusedRoom = 71
+
+abbrev pub recordRoom : ℕ
+recordRoom = 7
+
+abbrev pub acceptedRoom : ℕ → ℕ
+acceptedRoom records = 49 + recordRoom * records
+
 -- `accept`
 abbrev pub accept : List ℕ
 accept = 97 ∷ 99 ∷ 99 ∷ 101 ∷ 112 ∷ 116 ∷ []
@@ -55,10 +68,11 @@ inputTooShort = 105 ∷ 110 ∷ 112 ∷ 117 ∷ 116 ∷ 32 ∷ 116 ∷ 111 ∷ 1
 unfoldable pub recordText : ℕ → List ℕ
 recordText entry = cond (ltb entry 32768) (digitsOf entry) (45 ∷ digitsOf (entry - 32768))
 
--- one record a line
+-- a record's line
 unfoldable pub recordLine : ℕ → List ℕ
 recordLine entry = recordText entry ++ lineFeed
 
+-- one record a line
 unfoldable pub recordLines : List ℕ → List ℕ
 recordLines [] = []
 recordLines (entry ∷ tree) = recordLine entry ++ recordLines tree

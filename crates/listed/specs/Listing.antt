@@ -1,5 +1,5 @@
 -- The listing program: what it reads, and what it writes for it. Its input is the book's length, the book, then the events.
-use Prim.Native.Nat.{ℕ, _+_, _*_, _≤_}
+use Prim.Native.Nat.{ℕ, _+_, _≤_}
 use mathlib.Core.Path.{_≡_}
 use mathlib.Core.Logic.{_≢_}
 use mathlib.Core.Bool.{cond}
@@ -15,7 +15,7 @@ use Rattle.reader.specs.Numbers.{NO-ROOM}
 use Rattle.reader.specs.Reads.{Outcome, readOf}
 use Rattle.listed.specs.declared.Shape.{Shape}
 use Rattle.listed.specs.declared.Shape.the-variants.{TooLong, TooShort, Whole}
-use Rattle.listed.specs.Lines.{inputTooLong, inputTooShort, refusedLine, acceptedLines}
+use Rattle.listed.specs.Lines.{refusedRoom, acceptedRoom, inputTooLong, inputTooShort, refusedLine, acceptedLines}
 
 -- the longest book, and the room for events
 abbrev pub longestBook : ℕ
@@ -91,13 +91,13 @@ pub data Lists (input : List ℕ) : List ℕ → Type 0 where
 
 -- an output with room for the lines of a run that was read, and, where it was accepted, a tree with all its records
 pub record Room (out : List ℕ) (answer : Reading) (tree : List ℕ) : Type 0 where
-  pub line : 71 ≤ length out
-  pub lines : 49 + 7 * length tree ≤ length out
+  pub line : refusedRoom ≤ length out
+  pub lines : acceptedRoom (length tree) ≤ length out
   pub records : answer .number ≡ DONE → answer .records ≤ length tree
 
 -- the buffers lent to read a run, each of its size, and an output that always suffices
 pub record RunLent (out held tree : List ℕ) : Type 0 where
-  pub output : 49 + 7 * treeRoom ≤ length out
+  pub output : acceptedRoom treeRoom ≤ length out
   pub slots : length held ≡ slotRoom
   pub records : length tree ≡ treeRoom
 

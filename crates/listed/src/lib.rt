@@ -1,11 +1,14 @@
 // What the listing program writes.
 ghost use mathlib.Core.Path.{_≡_};
-ghost use mathlib.Core.List.{_++_};
 ghost use Prim.Native.Nat.{_+_, _*_, _≤_};
 ghost use lib.ListN.{length};
 ghost use Rattle.listed.specs.Lines.{
   Put,
   digitsOf,
+  spacedRoom,
+  refusedRoom,
+  recordRoom,
+  acceptedRoom,
   spaced,
   recordText,
   recordLine,
@@ -53,7 +56,7 @@ fn put_number(out: &mut [u8], at: usize, value: u64) -> usize
     requires { ⌜ at + length (digitsOf value) ≤ length (now out) ⌝ }
     ensures { λ r. ⌜ Put (now (out .entry)) (now (out .exit)) at r (digitsOf value) ⌝ }
 {
-    let digit = 48 + (value % 10) as u8;
+    let digit = b'0' + (value % 10) as u8;
     if value < 10 {
         out[at] = digit;
         return at + 1;
@@ -65,8 +68,8 @@ fn put_number(out: &mut [u8], at: usize, value: u64) -> usize
 
 // Puts a space and a number at a place, and answers the place after them.
 fn put_spaced(out: &mut [u8], at: usize, value: u64) -> usize
-    requires { ⌜ at + 21 ≤ length (now out) ⌝ }
-    ensures { λ r. ⌜ Put (now (out .entry)) (now (out .exit)) at r (spaced value) × (r ≤ at + 21) ⌝ }
+    requires { ⌜ at + spacedRoom ≤ length (now out) ⌝ }
+    ensures { λ r. ⌜ Put (now (out .entry)) (now (out .exit)) at r (spaced value) × (r ≤ at + spacedRoom) ⌝ }
 {
     let next = put_bytes(out, at, b" ");
     put_number(out, next, value)
@@ -74,7 +77,7 @@ fn put_spaced(out: &mut [u8], at: usize, value: u64) -> usize
 
 // Puts a refusal's line, and answers its length.
 fn put_refused(out: &mut [u8], number: u64, place: u64, third: u64) -> usize
-    requires { ⌜ 71 ≤ length (now out) ⌝ }
+    requires { ⌜ refusedRoom ≤ length (now out) ⌝ }
     ensures { λ r. ⌜ Put (now (out .entry)) (now (out .exit)) 0 r (refusedLine number place third) ⌝ }
 {
     let word = put_bytes(out, 0, b"refused");
@@ -99,8 +102,8 @@ fn put_node(out: &mut [u8], at: usize, entry: u16) -> usize
 
 // Puts a record's line at a place, and answers the place after it.
 fn put_record(out: &mut [u8], at: usize, entry: u16) -> usize
-    requires { ⌜ at + 7 ≤ length (now out) ⌝ }
-    ensures { λ r. ⌜ Put (now (out .entry)) (now (out .exit)) at r (recordLine entry) × (r ≤ at + 7) ⌝ }
+    requires { ⌜ at + recordRoom ≤ length (now out) ⌝ }
+    ensures { λ r. ⌜ Put (now (out .entry)) (now (out .exit)) at r (recordLine entry) × (r ≤ at + recordRoom) ⌝ }
 {
     let next = put_node(out, at, entry);
     put_bytes(out, next, b"\n")
@@ -108,7 +111,7 @@ fn put_record(out: &mut [u8], at: usize, entry: u16) -> usize
 
 // Puts one record a line from a place on, and answers the place after them.
 fn put_records(out: &mut [u8], at: usize, tree: &[u16]) -> usize
-    requires { ⌜ at + 7 * length (now tree) ≤ length (now out) ⌝ }
+    requires { ⌜ at + recordRoom * length (now tree) ≤ length (now out) ⌝ }
     ensures { λ r. ⌜ Put (now (out .entry)) (now (out .exit)) at r (recordLines (now (tree .entry))) ⌝ }
 {
     let mut next = at;
@@ -122,7 +125,7 @@ fn put_records(out: &mut [u8], at: usize, tree: &[u16]) -> usize
 
 // Puts an accepted run's lines, and answers their length.
 fn put_accepted(out: &mut [u8], events: u64, records: u64, tree: &[u16]) -> usize
-    requires { ⌜ 49 + 7 * length (now tree) ≤ length (now out) ⌝ }
+    requires { ⌜ acceptedRoom (length (now tree)) ≤ length (now out) ⌝ }
     ensures { λ r. ⌜ Put (now (out .entry)) (now (out .exit)) 0 r (acceptedLines events records (now (tree .entry))) ⌝ }
 {
     let word = put_bytes(out, 0, b"accept");
@@ -166,7 +169,7 @@ fn shape_of(input: &[u8]) -> Shape
 
 // Puts the line of a book that is refused, and answers its length.
 fn put_compiled(out: &mut [u8], answer: Compiled) -> usize
-    requires { ⌜ 71 ≤ length (now out) ⌝ }
+    requires { ⌜ refusedRoom ≤ length (now out) ⌝ }
     ensures { λ r. ⌜ Put (now (out .entry)) (now (out .exit)) 0 r (compiledLine answer) ⌝ }
 {
     put_refused(

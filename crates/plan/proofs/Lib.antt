@@ -1,6 +1,8 @@
 pub mod Agrees
 pub mod Children
 mod Columns
+mod Joined
+pub mod Expected
 pub mod Laws
 mod Listed
 pub mod PlanBytes

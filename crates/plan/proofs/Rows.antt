@@ -1,6 +1,6 @@
 -- The rows of a plan: where they begin, and how the search for a bad cell goes from row to row.
 use mathlib.Core.Path.{_≡_, refl, sym, ap, _∙_}
-use mathlib.Core.Bool.{Bool}
+use mathlib.Core.Bool.{true, false}
 use mathlib.Core.List.{List}
 use Prim.Native.Nat.{ℕ, _+_, _*_, _-_, _≤_, _<_}
 use native.Mathlib.Nat.{zero-mul, add-mul, mul-le-mul-right}
@@ -39,23 +39,19 @@ module _ (count kinds : ℕ) where
     rows-none = record { searched = searched-none _ _; at-is = first-row }
 
     module _ {at n : ℕ} (s : RowsSearched at n) where
-      -- what the search in a row of a node finds is the row's first bad column
-      pub found-is : {column one other : ℕ} {node : Node} → node ≡ nodeAt bytes planNodesAt n → one ≡ oneCell node
-          → other ≡ otherCell node → column ≡ badColumn bytes at kinds one other → column ≡ badIn bytes count kinds n
-      found-is node-is one-is other-is column-is = rw (← node-is, ← one-is, ← other-is, ← s .at-is) column-is
+      -- the first bad column in a row of a node, by the cells that the node's type has
+      pub found-is : {one other : ℕ} {node : Node} → node ≡ nodeAt bytes planNodesAt n → one ≡ oneCell node → other ≡ otherCell node
+          → badColumn bytes at kinds one other ≡ badIn bytes count kinds n
+      found-is node-is one-is other-is = rw (other-is, one-is, node-is, s .at-is)
 
-      module _ {column : ℕ} (found : column ≡ badIn bytes count kinds n) (below : n < count) where
-        pub rows-more : kinds < column → RowsSearched (at + (kinds + 1)) (n + 1)
-        rows-more good =
-            record {
-              searched = searched-more _ (s .searched) below (lt-ltb _ _ (rw found at good));
-              at-is = next-at n (s .at-is);
-            }
+      module _ (below : n < count) where
+        pub rows-more : rowGood bytes count kinds n ≡ true → RowsSearched (at + (kinds + 1)) (n + 1)
+        rows-more good = record { searched = searched-more _ (s .searched) below good; at-is = next-at n (s .at-is) }
 
-        pub rows-bad : column ≤ kinds → judged CELL (at - rowsAt count + column) ≡ cellsJudged bytes count kinds
+        pub rows-bad : {column : ℕ} → rowGood bytes count kinds n ≡ false → column ≡ badIn bytes count kinds n
+            → judged CELL (at - rowsAt count + column) ≡ cellsJudged bytes count kinds
         unfolding cellsJudged
-        rows-bad bad =
-            rw (← searched-bad _ (s .searched) below (le-ltb _ _ (rw found at bad)), lt-ltb _ _ below) (ap (judged CELL) place-is)
+        rows-bad {column} bad found = rw (← searched-bad _ (s .searched) below bad, lt-ltb _ _ below) (ap (judged CELL) place-is)
           where
             place-is : at - rowsAt count + column ≡ n * (kinds + 1) + badIn bytes count kinds n
             place-is = let at-is = s .at-is in omega arith

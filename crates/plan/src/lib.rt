@@ -3,6 +3,7 @@ ghost use mathlib.Core.Path.{_≡_};
 ghost use Prim.Native.Nat.{_+_, _*_, _-_, _≤_, _<_};
 ghost use mathlib.Core.List.{[], _∷_, _++_};
 ghost use mathlib.Core.Bool.{cond};
+ghost use lib.Dec.{ltb};
 ghost use lib.ListN.{length, drop};
 ghost use lib.Seq.{sets};
 ghost use Rattle.words.specs.Words.{zeros};
@@ -83,6 +84,21 @@ fn bad_column(plan: &[u8], at: usize, kinds: usize, one: u8, other: u8) -> usize
     kinds
 }
 
+// Whether a row has no bad cell. Every cell is looked at, without a branch: most rows are good.
+fn row_good(plan: &[u8], at: usize, kinds: usize, one: u8, other: u8) -> bool
+    requires { ⌜ at + (kinds + 1) ≤ length (now plan) ⌝ }
+    ensures { λ r. ⌜ r ≡ ltb kinds (badColumn (now (plan .entry)) at kinds one other) ⌝ }
+{
+    let mut all = true;
+    let mut column = 0;
+    while column < kinds {
+        let cell = plan[at + column];
+        all = all & ((cell == 0) | (cell == one) | (cell == other));
+        column += 1;
+    }
+    all & (plan[at + kinds] <= 1)
+}
+
 // The cells' answer: done, or the first bad cell in row order.
 fn judge_cells(plan: &[u8], count: usize, kinds: usize) -> Judged
     requires { ⌜ (planSize count kinds ≤ length (now plan)) × (planSize count kinds < 65536) ⌝ }
@@ -93,8 +109,10 @@ fn judge_cells(plan: &[u8], count: usize, kinds: usize) -> Judged
     let mut n = 0;
     while n < count {
         let node = node_at(plan, NODES_AT, n);
-        let column = bad_column(plan, at, kinds, one_cell(node), other_cell(node));
-        if column <= kinds {
+        let one = one_cell(node);
+        let other = other_cell(node);
+        if !row_good(plan, at, kinds, one, other) {
+            let column = bad_column(plan, at, kinds, one, other);
             return Judged {
                 number: CELL,
                 place: (at - rows + column) as u32,

@@ -56,7 +56,7 @@ add-result c = search needs
 -- past the kinds the search stands at the last cell
 last : (c : tie.After-loop Inv-loop μ-loop)
     → Searched (columnGood (c .before .before .args .plan .now) (c .before .before .args .at) (c .before .before .args .kinds) (c .before .before .args .one) (c .before .before .args .other)) (c .before .before .args .kinds + 1) (c .before .before .args .kinds)
-last c = at-last _ _ _ (c .before .loop .inv .0) (c .before .loop .inv .1) (c .loop-test .left)
+last c = at-last (Searched _ _) (c .before .loop .inv .0) (c .before .loop .inv .1) (c .loop-test .left)
 
 returns-2 : tie.Need-returns-2 Inv-loop μ-loop
 unfolding badColumn
