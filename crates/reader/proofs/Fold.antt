@@ -34,27 +34,32 @@ module _ (p : Plan) where
   stopped-stays answer [] = refl
   stopped-stays answer (k ∷ run) = stopped-stays answer run
 
+  -- where it has stopped, the events left change nothing
+  ends : (written run : List ℕ) (answer : Answer) → logged written answer ≡ answer → logged written answer ≡ closed p (steps p (stopped answer) run)
+  unfolding closed
+  ends written run answer same = same ∙ sym (ap (closed p) (stopped-stays answer run))
+
+  module _ (run : List ℕ) (at : ℕ) (held written : List ℕ)
+      (rest : (h w : List ℕ) → logged w (reads p (suc at) h run) ≡ closed p (steps p (going (suc at) h w) run)) where
+    onward-steps : (s : Step) → logged written (onward s (λ h. reads p (suc at) h run) at held) ≡ closed p (steps p (advanced s at held written) run)
+    unfolding onward advanced logged
+    onward-steps (taken h records) = logged-logged written records (reads p (suc at) h run) ∙ rest h (written ++ records)
+    onward-steps refused = ends written run (unexpected-at at held) refl
+    onward-steps deep = ends written run (deep-at at) refl
+    onward-steps runaway = ends written run (runaway-at at) refl
+
+    known-steps : (known : Bool) (s : Step)
+        → logged written (pick known (onward s (λ h. reads p (suc at) h run) at held) (unknown-at at held))
+        ≡ closed p (steps p (cond known (advanced s at held written) (stopped (unknown-at at held))) run)
+    unfolding logged
+    known-steps true s = onward-steps s
+    known-steps false s = ends written run (unknown-at at held) refl
+
   -- a run from a place on, after records
   pub reads-steps : (run : List ℕ) (at : ℕ) (held written : List ℕ) → logged written (reads p at held run) ≡ closed p (steps p (going at held written) run)
-  unfolding reads steps step closed onward advanced logged
+  unfolding reads steps step closed
   reads-steps [] at held written = refl
-  reads-steps (k ∷ run) at held written = by-kind (ltb k (p .kinds)) (event p k held) (λ h w. reads-steps run (suc at) h w)
-    where
-      ends : (answer : Answer) → logged written answer ≡ answer → logged written answer ≡ closed p (steps p (stopped answer) run)
-      ends answer same = same ∙ sym (ap (closed p) (stopped-stays answer run))
-
-      by-step : (s : Step) → ((h w : List ℕ) → logged w (reads p (suc at) h run) ≡ closed p (steps p (going (suc at) h w) run))
-          → logged written (onward s (λ h. reads p (suc at) h run) at held) ≡ closed p (steps p (advanced s at held written) run)
-      by-step (taken h records) rest = logged-logged written records (reads p (suc at) h run) ∙ rest h (written ++ records)
-      by-step refused rest = ends (unexpected-at at held) refl
-      by-step deep rest = ends (deep-at at) refl
-      by-step runaway rest = ends (runaway-at at) refl
-
-      by-kind : (known : Bool) (s : Step) → ((h w : List ℕ) → logged w (reads p (suc at) h run) ≡ closed p (steps p (going (suc at) h w) run))
-          → logged written (pick known (onward s (λ h. reads p (suc at) h run) at held) (unknown-at at held))
-          ≡ closed p (steps p (cond known (advanced s at held written) (stopped (unknown-at at held))) run)
-      by-kind true s rest = by-step s rest
-      by-kind false s rest = ends (unknown-at at held) refl
+  reads-steps (k ∷ run) at held written = known-steps run at held written (λ h w. reads-steps run (suc at) h w) (ltb k (p .kinds)) (event p k held)
 
   -- a whole reading
   pub reading-steps : (run : List ℕ) → reading p run ≡ closed p (steps p (begun p) run)

@@ -63,30 +63,19 @@ module _ (p : Plan) (k : ℕ) (goal : After) (slots room bound : ℕ) where
       unfolding visitOf
       walk-deep is full = rw (is, le-ltb count (length held) full) at visited
 
+      -- the walk goes on at a node
+      walk-goes : (m : ℕ) → m < p .count → walkOf p k left′ m count (written + 1) held tree′ ≡ goal → Walking left′ m count (written + 1) held tree′
+      walk-goes m below rest =
+          record { rest = rest; node-below = below; few = w .few; held-long = w .held-long; tree-long = tree′-long; small = omega (arith, w .small) }
+
       module _ (b : Bounded p slots) (m : ℕ) where
         pub walk-left : p .cell n k ≡ 2 → m ≡ p .left n → Walking left′ m count (written + 1) held tree′
         unfolding visitOf
-        walk-left is goes =
-            record {
-              rest = rw goes (rw is at visited);
-              node-below = rw goes (b .left-below n);
-              few = w .few;
-              held-long = w .held-long;
-              tree-long = tree′-long;
-              small = omega (arith, w .small);
-            }
+        walk-left is goes = walk-goes m (rw goes (b .left-below n)) (rw goes (rw is at visited))
 
         pub walk-right : p .cell n k ≡ 5 → m ≡ p .right n → Walking left′ m count (written + 1) held tree′
         unfolding visitOf
-        walk-right is goes =
-            record {
-              rest = rw goes (rw is at visited);
-              node-below = rw goes (b .right-below n);
-              few = w .few;
-              held-long = w .held-long;
-              tree-long = tree′-long;
-              small = omega (arith, w .small);
-            }
+        walk-right is goes = walk-goes m (rw goes (b .right-below n)) (rw goes (rw is at visited))
 
         pub walk-holds : (r : ℕ) → p .cell n k ≡ 3 → count < length held → m ≡ p .left n → r ≡ p .right n
             → Walking left′ m (count + 1) (written + 1) (set held count r) tree′

@@ -2,4 +2,5 @@ pub mod Numbers
 pub mod Machine
 pub mod Ready
 pub mod Reads
+pub mod Settled
 pub mod Steps

@@ -4,7 +4,7 @@ use mathlib.Core.Path.{_≡_}
 use mathlib.Core.Bool.{Bool, cond}
 use mathlib.Core.List.{List, _++_}
 use lib.Dec.{ltb, leb, eqb}
-use lib.ListN.{length, take}
+use lib.ListN.{length}
 use Rattle.words.specs.Words.{zeros}
 use Rattle.book.specs.Form.{DONE}
 use Rattle.plan.specs.Running.{Plan, Answer, accepted, deep-at, unknown-at, unexpected-at, end-at, runaway-at, expected, reading}
@@ -60,12 +60,3 @@ readOf plan run slots room =
 pub record Reads (plan run held tree : List ℕ) (answer : Reading) (held-after tree-after : List ℕ) : Type 0 where
   pub outcome-is : outcome answer tree-after ≡ readOf plan run (length held) (length tree)
   pub slots-zero : held-after ≡ zeros (length held)
-
--- the answer settled, by the records of a run that was accepted: the tree's rest cleared, or all of it
-unfoldable pub settledOf : Reading → List ℕ → Outcome
-settledOf answer tree =
-    cond (eqb (answer .number) DONE)
-    (cond (leb (answer .records) (length tree))
-    (outcome answer (take (answer .records) tree ++ zeros (length tree - answer .records)))
-    (bare (length tree) (answered NO-ROOM 0 (answer .records) 0)))
-    (bare (length tree) answer)

@@ -26,6 +26,23 @@ abbrev μ-loop : tie.MeasureT-loop
 abbrev At : Type 0
 At = tie.At-loop Inv-loop μ-loop
 
+-- a part taken off, its cell read
+abbrev Taken : Type 0
+Taken = tie.After-cell-at Inv-loop μ-loop
+
+-- its turn, the loop's head before it, the loop's beginning and the function's entry
+abbrev turn : Taken → tie.In-loop Inv-loop μ-loop
+turn v = v .before .before
+
+abbrev head : Taken → At
+head v = turn v .before
+
+abbrev entry : Taken → tie.Else1 Inv-loop μ-loop
+entry v = head v .before
+
+abbrev start : Taken → tie.Start Inv-loop μ-loop
+start v = entry v .before .before .before .before
+
 -- the plan that is run
 abbrev plan-of : At → Plan
 plan-of l =
@@ -63,61 +80,71 @@ cell-at-requires c κs = (c .before .before .before .before .before .before .bef
 
 walk-requires : tie.Need-walk-requires Inv-loop μ-loop
 walk-requires c κs =
-    let inv = c .before .before .before .before .before .before .loop .inv in
-    let some = c .before .before .before .before .before .loop-test .taken in (
+    let v = c .before .before .before in
+    let inv = head v .loop .inv in
+    let some = turn v .loop-test .taken in (
       record {
-        runs = c .before .before .before .before .before .before .before .before .before .before .before .pre .runs;
+        runs = start v .pre .runs;
         parts = rw (inv .safe .long) (fewer inv some);
-        few-records = omega (arith, inv .small, c .before .before .before .before .before .before .before .before .before .before .before .pre .few-records);
+        few-records = omega (arith, inv .small, start v .pre .few-records);
       },
-      c .before .before .before .before .before .before .before .if1 .left,
+      entry v .if1 .left,
       last-below inv some,
     )
 
 same-length : tie.Need-same-length Inv-loop μ-loop
-same-length c = c .before .before .before .before .walk .kept .1 .1 .1 .1 .1 .1 .1 .0 ∙ c .before .before .before .before .before .before .before .before .before .before .before .loop .inv .safe .long
+same-length c = c .before .before .before .before .walk .kept .1 .1 .1 .1 .1 .1 .1 .0 ∙ head (c .before .before .before .before .before .before .before .before) .loop .inv .safe .long
 
 same-length-2 : tie.Need-same-length-2 Inv-loop μ-loop
-same-length-2 c = c .before .before .before .before .walk .kept .1 .1 .1 .1 .1 .1 .1 .1 .0 ∙ c .before .before .before .before .before .before .before .before .before .before .before .loop .inv .tree-long
+same-length-2 c = c .before .before .before .before .walk .kept .1 .1 .1 .1 .1 .1 .1 .1 .0 ∙ head (c .before .before .before .before .before .before .before .before) .loop .inv .tree-long
 
 returns-2 : tie.Need-returns-2 Inv-loop μ-loop
 unfolding planFrom
 returns-2 c =
-    let inv = c .before .before .before .before .before .before .before .before .before .before .before .loop .inv in
+    let v = c .before .before .before .before .before .before .before .before in
+    let inv = head v .loop .inv in
     rw (inv .safe .long) at (c .before .before .before .before .walk .ensures)
-    ∙ take-walks _ _ inv (c .before .before .before .before .before .before .before .before .before .before .loop-test .taken) (λ is. c .before .before .before .before .before .before .before .if2 .taken (c .before .before .before .before .before .before .before .before .cell-at .ensures .0 ∙ is))
+    ∙ take-walks _ _ inv (turn v .loop-test .taken) (λ is. c .before .before .before .before .before .before .before .if2 .taken (v .cell-at .ensures .0 ∙ is))
 
 cell-at-requires-2 : tie.Need-cell-at-requires-2 Inv-loop μ-loop
-cell-at-requires-2 c κs = (c .before .before .before .before .before .before .before .before .before .pre .runs, last-below (c .before .before .before .before .loop .inv) (c .before .before .before .loop-test .taken), omega arith)
+cell-at-requires-2 c κs = (start (c .before) .pre .runs, last-below (head (c .before) .loop .inv) (turn (c .before) .loop-test .taken), omega arith)
 
 same-length-3 : tie.Need-same-length-3 Inv-loop μ-loop
-same-length-3 c = c .before .before .before .before .before .before .loop .inv .safe .long
+same-length-3 c = head (c .before .before .before) .loop .inv .safe .long
 
 same-length-4 : tie.Need-same-length-4 Inv-loop μ-loop
-same-length-4 c = c .before .before .before .before .before .before .loop .inv .tree-long
+same-length-4 c = head (c .before .before .before) .loop .inv .tree-long
 
 returns-3 : tie.Need-returns-3 Inv-loop μ-loop
 unfolding planFrom
 returns-3 c =
-    take-refuses _ _ (c .before .before .before .before .before .before .loop .inv) (c .before .before .before .before .before .loop-test .taken) (sym (c .before .before .before .cell-at .ensures .0) ∙ c .before .before .if2 .left)
+    let v = c .before .before .before in
+    take-refuses _ _ (head v .loop .inv) (turn v .loop-test .taken) (sym (v .cell-at .ensures .0) ∙ c .before .before .if2 .left)
     (ne-eqb _ _ (λ is. c .if3 .taken (c .before .cell-at2 .ensures .0 ∙ is)))
 
 add-note : tie.Need-add-note Inv-loop μ-loop
-add-note c = omega (arith, last-small (c .before .before .before .before .before .before .before) (c .before .before .before .before .before .before .loop-test .taken))
+add-note c =
+    let v = c .before .before .before .before in
+    omega (arith, last-small (head v) (turn v .loop-test .taken))
 
 note-requires : tie.Need-note-requires Inv-loop μ-loop
-note-requires c κs = omega (arith, last-small (c .before .before .before .before .before .before .before) (c .before .before .before .before .before .before .loop-test .taken))
+note-requires c κs =
+    let v = c .before .before .before .before in
+    omega (arith, last-small (head v) (turn v .loop-test .taken))
 
 add-records : tie.Need-add-records Inv-loop μ-loop
-add-records c = omega (arith, c .before .before .before .before .before .before .before .before .before .before .loop .inv .small, c .before .before .before .before .before .before .before .before .before .loop-test .taken, c .before .before .before .before .before .before .before .before .before .before .before .before .before .before .before .pre .few-records)
+add-records c =
+    let v = c .before .before .before .before .before .before .before in
+    omega (arith, head v .loop .inv .small, turn v .loop-test .taken, start v .pre .few-records)
 
 loop-less : tie.Need-loop-less Inv-loop μ-loop
-loop-less c = omega (arith, c .before .before .before .before .before .before .before .before .before .loop-test .taken)
+loop-less c = omega (arith, turn (c .before .before .before .before .before .before .before) .loop-test .taken)
 
 loop-again : tie.Need-loop-again Inv-loop μ-loop
 unfolding planFrom
 loop-again c =
-    take-passes _ _ (c .before .before .before .before .before .before .before .before .before .before .loop .inv) (c .before .before .before .before .before .before .before .before .before .loop-test .taken) (sym (c .before .before .before .before .before .before .before .cell-at .ensures .0) ∙ c .before .before .before .before .before .before .if2 .left)
+    let v = c .before .before .before .before .before .before .before in
+    take-passes _ _ (head v .loop .inv) (turn v .loop-test .taken) (sym (v .cell-at .ensures .0) ∙ c .before .before .before .before .before .before .if2 .left)
     (eq-eqb _ _ (sym (c .before .before .before .before .before .cell-at2 .ensures .0) ∙ c .before .before .before .before .if3 .left)) _ (c .before .before .note .ensures)
 
 same-length-5 : tie.Need-same-length-5 Inv-loop μ-loop

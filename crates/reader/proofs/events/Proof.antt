@@ -36,14 +36,31 @@ ready l =
     let inv = l .loop .inv in
     record { runs = pre .0 .runs; parts = rw (inv .safe .long) (inv .safe); few-records = omega (arith, inv .small, inv .within, pre .1) }
 
+-- the event of a turn
+abbrev Met : Type 0
+Met = tie.After-event Inv-loop μ-loop
+
+-- its turn, the loop's head before it, the function's entry, and where the part held last is read
+abbrev turn : Met → tie.In-loop Inv-loop μ-loop
+turn v = v .before .before .before .before .before .before .before
+
+abbrev head : Met → At
+head v = turn v .before
+
+abbrev start : Met → tie.Start Inv-loop μ-loop
+start v = head v .before .before .before .before .before
+
+abbrev last-read : Met → tie.After-last-part Inv-loop μ-loop
+last-read v = v .before .before .before .before .before
+
 -- how the machine stands after the event
-abbrev stood : tie.After-event Inv-loop μ-loop → After
+abbrev stood : Met → After
 stood c = after (c .event .result) (c .event .last .1 .1 .1 .1 .1 .1 .0) (c .event .last .1 .1 .1 .1 .1 .1 .1 .0)
 
-steps : (c : tie.After-event Inv-loop μ-loop)
-    → stood c ≡ eventOf (onSlots (c .before .before .before .before .before .before .before .before .before .before .before .before .before .args .plan .now) (c .before .before .before .before .before .before .before .before .before .before .before .before .before .args .nodes) (c .before .before .before .before .before .before .before .before .before .before .before .before .before .args .kinds) (length (c .before .before .before .before .before .before .before .before .before .before .before .before .before .args .held .now))) (getD (c .before .before .before .before .before .before .before .before .before .before .before .before .before .args .run .now) (c .before .before .before .before .before .before .before .before .loop .at) 0)
-    (c .before .before .before .before .before .before .before .before .loop .count) (c .before .before .before .before .before .before .before .before .loop .written) (c .before .before .before .before .before .before .before .before .loop .held) (c .before .before .before .before .before .before .before .before .loop .tree)
-steps c = rw (c .before .before .before .wide .ensures .0, c .before .before .before .before .before .before .before .before .loop .inv .safe .long) at (c .event .ensures)
+steps : (c : Met)
+    → stood c ≡ eventOf (onSlots (start c .args .plan .now) (start c .args .nodes) (start c .args .kinds) (length (start c .args .held .now))) (getD (start c .args .run .now) (head c .loop .at) 0)
+    (head c .loop .count) (head c .loop .written) (head c .loop .held) (head c .loop .tree)
+steps c = rw (c .before .before .before .wide .ensures .0, head c .loop .inv .safe .long) at (c .event .ensures)
 
 loop-holds : tie.Need-loop-holds Inv-loop μ-loop
 unfolding planFrom
@@ -64,33 +81,38 @@ event-requires c κs = ready (c .before .before .before .before .before .before 
 
 refuse-requires : tie.Need-refuse-requires Inv-loop μ-loop
 refuse-requires c κs =
-    let parts = ready (c .before .before .before .before .before .before .before .before .before .before .before .before .before .before) .parts in
-    let runs = c .before .before .before .before .before .before .before .before .before .before .before .before .before .before .before .before .before .before .before .pre .0 .runs in
-    (runs, rw (c .before .before .before .before .before .before .before .before .before .before .before .last-part .ensures) (last-node _ (runs .some-node) parts), omega (arith, c .before .before .before .before .before .before .before .before .before .before .before .before .before .loop-test .taken, c .before .before .before .before .before .before .before .before .before .before .before .before .before .before .before .before .before .before .before .pre .1))
+    let v = c .before .before .before .before .before .before in
+    let parts = ready (head v) .parts in
+    let runs = start v .pre .0 .runs in
+    (runs, rw (last-read v .last-part .ensures) (last-node _ (runs .some-node) parts), omega (arith, turn v .loop-test .taken, start v .pre .1))
 
 same-length : tie.Need-same-length Inv-loop μ-loop
-same-length c = c .before .before .before .before .before .before .before .event .kept .1 .1 .1 .1 .1 .1 .0 ∙ c .before .before .before .before .before .before .before .before .before .before .before .before .before .before .before .loop .inv .safe .long
+same-length c = c .before .before .before .before .before .before .before .event .kept .1 .1 .1 .1 .1 .1 .0 ∙ head (c .before .before .before .before .before .before .before) .loop .inv .safe .long
 
 same-length-2 : tie.Need-same-length-2 Inv-loop μ-loop
-same-length-2 c = c .before .before .before .before .before .before .before .event .kept .1 .1 .1 .1 .1 .1 .1 .0 ∙ c .before .before .before .before .before .before .before .before .before .before .before .before .before .before .before .loop .inv .tree-long
+same-length-2 c = c .before .before .before .before .before .before .before .event .kept .1 .1 .1 .1 .1 .1 .1 .0 ∙ head (c .before .before .before .before .before .before .before) .loop .inv .tree-long
 
 returns : tie.Need-returns Inv-loop μ-loop
 returns c =
-    ap (λ (r : Reading). ended r (stood (c .before .before .before .before .before .before .before) .held) (stood (c .before .before .before .before .before .before .before) .tree))
-    (refusal-is _ _ _ (length (c .before .before .before .before .before .before .before .before .before .before .before .before .before .before .before .before .before .before .before .before .args .held .now)) _ _ _ _ _ (c .refuse .ensures) (c .before .before .before .before .before .before .before .before .before .before .before .before .last-part .ensures))
-    ∙ run-refused _ _ _ _ _ (c .before .before .before .before .before .before .before .before .before .before .before .before .before .before .before .loop .inv) (c .before .before .before .before .before .before .before .before .before .before .before .before .before .before .loop-test .taken) (stood (c .before .before .before .before .before .before .before)) (steps (c .before .before .before .before .before .before .before)) (c .before .if1 .taken)
+    let v = c .before .before .before .before .before .before .before in
+    ap (λ (r : Reading). ended r (stood v .held) (stood v .tree))
+    (refusal-is _ _ _ (length (start v .args .held .now)) _ _ _ _ _ (c .refuse .ensures) (last-read v .last-part .ensures))
+    ∙ run-refused _ _ _ _ _ (head v .loop .inv) (turn v .loop-test .taken) (stood v) (steps v) (c .before .if1 .taken)
 
 add-at : tie.Need-add-at Inv-loop μ-loop
-add-at c = omega (arith, c .before .before .before .before .before .before .before .before .before .before .before .before .before .loop-test .taken, c .before .before .before .before .before .before .before .before .before .before .before .before .before .before .before .before .before .before .before .pre .1)
+add-at c =
+    let v = c .before .before .before .before .before .before in
+    omega (arith, turn v .loop-test .taken, start v .pre .1)
 
 loop-less : tie.Need-loop-less Inv-loop μ-loop
-loop-less c = omega (arith, c .before .before .before .before .before .before .before .before .before .before .before .before .before .loop-test .taken)
+loop-less c = omega (arith, turn (c .before .before .before .before .before .before) .loop-test .taken)
 
 loop-again : tie.Need-loop-again Inv-loop μ-loop
 unfolding planFrom
 loop-again c =
-    let runs = c .before .before .before .before .before .before .before .before .before .before .before .before .before .before .before .before .before .before .before .pre .0 .runs in
-    run-goes _ _ _ _ _ (c .before .before .before .before .before .before .before .before .before .before .before .before .before .before .loop .inv) (c .before .before .before .before .before .before .before .before .before .before .before .before .before .loop-test .taken) (stood (c .before .before .before .before .before .before)) (steps (c .before .before .before .before .before .before)) (plan-bounded runs _) (runs .few-nodes) (c .if1 .left) (c .before .before .before .before .before .before .event .kept .1 .1 .1 .1 .1 .1 .1 .0)
+    let v = c .before .before .before .before .before .before in
+    let runs = start v .pre .0 .runs in
+    run-goes _ _ _ _ _ (head v .loop .inv) (turn v .loop-test .taken) (stood v) (steps v) (plan-bounded runs _) (runs .few-nodes) (c .if1 .left) (v .event .kept .1 .1 .1 .1 .1 .1 .1 .0)
 
 close-requires : tie.Need-close-requires Inv-loop μ-loop
 close-requires c κs = (ready (c .before .before .before), omega (arith, c .before .before .before .loop .inv .within, c .before .before .before .before .before .before .before .before .pre .1))

@@ -25,6 +25,20 @@ abbrev μ-loop : tie.MeasureT-loop
 abbrev At : Type 0
 At = tie.At-loop Inv-loop μ-loop
 
+-- a part taken off, its cell read
+abbrev Taken : Type 0
+Taken = tie.After-cell-at Inv-loop μ-loop
+
+-- its turn, the loop's head before it and the function's entry
+abbrev turn : Taken → tie.In-loop Inv-loop μ-loop
+turn v = v .before .before
+
+abbrev head : Taken → At
+head v = turn v .before
+
+abbrev start : Taken → tie.Start Inv-loop μ-loop
+start v = head v .before .before .before .before
+
 -- the part taken off is a small number
 last-small : (l : At) → 0 < l .loop .parts → lastAt (l .before .before .before .before .args .held .now) (l .loop .parts) < 512
 last-small l some = omega (arith, last-below (l .loop .inv) some, l .before .before .before .before .pre .runs .few-nodes)
@@ -48,30 +62,33 @@ cell-at-requires : tie.Need-cell-at-requires Inv-loop μ-loop
 cell-at-requires c κs = (c .before .before .before .before .before .before .pre .runs, last-below (c .before .before .loop .inv) (c .before .loop-test .taken), omega arith)
 
 same-length : tie.Need-same-length Inv-loop μ-loop
-same-length c = c .before .before .before .before .loop .inv .tree-long
+same-length c = head (c .before) .loop .inv .tree-long
 
 returns : tie.Need-returns Inv-loop μ-loop
 unfolding planFrom
 returns c =
-    finish-refuses _ (c .before .before .before .before .loop .inv) (c .before .before .before .loop-test .taken) (ne-eqb _ _ (λ is. c .if1 .taken (c .before .cell-at .ensures .0 ∙ is)))
+    finish-refuses _ (head (c .before) .loop .inv) (turn (c .before) .loop-test .taken) (ne-eqb _ _ (λ is. c .if1 .taken (c .before .cell-at .ensures .0 ∙ is)))
 
 add-note : tie.Need-add-note Inv-loop μ-loop
-add-note c = omega (arith, last-small (c .before .before .before .before .before) (c .before .before .before .before .loop-test .taken))
+add-note c = omega (arith, last-small (head (c .before .before)) (turn (c .before .before) .loop-test .taken))
 
 note-requires : tie.Need-note-requires Inv-loop μ-loop
-note-requires c κs = omega (arith, last-small (c .before .before .before .before .before) (c .before .before .before .before .loop-test .taken))
+note-requires c κs = omega (arith, last-small (head (c .before .before)) (turn (c .before .before) .loop-test .taken))
 
 add-records : tie.Need-add-records Inv-loop μ-loop
-add-records c = omega (arith, c .before .before .before .before .before .before .before .before .loop .inv .small, c .before .before .before .before .before .before .before .loop-test .taken, c .before .before .before .before .before .before .before .before .before .before .before .before .pre .few-records)
+add-records c =
+    let v = c .before .before .before .before .before in
+    omega (arith, head v .loop .inv .small, turn v .loop-test .taken, start v .pre .few-records)
 
 loop-less : tie.Need-loop-less Inv-loop μ-loop
-loop-less c = omega (arith, c .before .before .before .before .before .before .before .loop-test .taken)
+loop-less c = omega (arith, turn (c .before .before .before .before .before) .loop-test .taken)
 
 loop-again : tie.Need-loop-again Inv-loop μ-loop
 unfolding planFrom
 loop-again c =
-    finish-passes _ (c .before .before .before .before .before .before .before .before .loop .inv) (c .before .before .before .before .before .before .before .loop-test .taken)
-    (eq-eqb _ _ (sym (c .before .before .before .before .before .cell-at .ensures .0) ∙ c .before .before .before .before .if1 .left)) _ (c .before .before .note .ensures)
+    let v = c .before .before .before .before .before in
+    finish-passes _ (head v .loop .inv) (turn v .loop-test .taken)
+    (eq-eqb _ _ (sym (v .cell-at .ensures .0) ∙ c .before .before .before .before .if1 .left)) _ (c .before .before .note .ensures)
 
 same-length-2 : tie.Need-same-length-2 Inv-loop μ-loop
 same-length-2 c = c .before .loop .inv .tree-long
