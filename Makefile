@@ -36,10 +36,9 @@ $(EXAMPLES)/%: host/%.c host/rinse.h host/words.h include/drumbook.h $(ARCHIVE)
 	@mkdir -p $(EXAMPLES)
 	@$(CC) $(CFLAGS) $(WARNINGS) -Iinclude $< $(ARCHIVE) -o $@
 
-# measures the archive against the plain C compiler and reader of bench/
+# measures the archive against the plain C compiler and reader of bench/, and writes docs/BENCHMARKS.md
 bench: archive
-	@$(CC) -std=c11 -O2 -Iinclude bench/bench.c bench/reference.c $(ARCHIVE) -o target/bench
-	@target/bench
+	@CC=$(CC) scripts/bench
 
 # the header, the archive and a pkg-config file, below PREFIX
 install: archive
