@@ -1,6 +1,12 @@
 pub mod Agrees
+pub mod Children
 mod Columns
 pub mod Laws
 mod Listed
 pub mod PlanBytes
+pub mod PlanDone
+mod Row
 mod Rows
+mod Stored
+pub mod TableMarks
+pub mod Writing

@@ -14,9 +14,16 @@ use Rattle.book.proofs.FirstBad.{Searched, searched-none, searched-more, search
 use Rattle.plan.specs.Form.{rowsAt, rowAt, planSize, planNodesAt, oneCell, otherCell, badColumn, badIn, rowGood, cellsForm, cellsJudged, CELL}
 
 module _ (count kinds : ℕ) where
+  -- the first row begins where the rows do
+  pub first-row : rowsAt count ≡ rowAt count kinds 0
+  first-row = omega (arith, zero-mul (kinds + 1))
+
   -- the next row begins behind a row
   pub next-row : (n : ℕ) → rowAt count kinds (n + 1) ≡ rowAt count kinds n + (kinds + 1)
   next-row n = omega (arith, add-mul n 1 (kinds + 1))
+
+  pub next-at : {at : ℕ} (n : ℕ) → at ≡ rowAt count kinds n → at + (kinds + 1) ≡ rowAt count kinds (n + 1)
+  next-at {at} n is = ap (λ (m : ℕ). m + (kinds + 1)) is ∙ sym (next-row n)
 
   -- a row stands within the plan
   pub row-within : {n : ℕ} → n < count → rowAt count kinds n + (kinds + 1) ≤ planSize count kinds
@@ -29,7 +36,7 @@ module _ (count kinds : ℕ) where
       pub at-is : at ≡ rowAt count kinds n
 
     pub rows-none : RowsSearched (rowsAt count) 0
-    rows-none = record { searched = searched-none _ _; at-is = omega (arith, zero-mul (kinds + 1)) }
+    rows-none = record { searched = searched-none _ _; at-is = first-row }
 
     module _ {at n : ℕ} (s : RowsSearched at n) where
       -- what the search in a row of a node finds is the row's first bad column
@@ -42,7 +49,7 @@ module _ (count kinds : ℕ) where
         rows-more good =
             record {
               searched = searched-more _ (s .searched) below (lt-ltb _ _ (rw found at good));
-              at-is = ap (λ (m : ℕ). m + (kinds + 1)) (s .at-is) ∙ sym (next-row n);
+              at-is = next-at n (s .at-is);
             }
 
         pub rows-bad : column ≤ kinds → judged CELL (at - rowsAt count + column) ≡ cellsJudged bytes count kinds

@@ -1,0 +1,7 @@
+mod Answers
+mod Bounds
+pub mod Decisions
+pub mod Least
+pub mod Promise
+pub mod Some
+pub mod Unique

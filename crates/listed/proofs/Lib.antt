@@ -1,0 +1,4 @@
+pub mod Laws
+pub mod Answers
+pub mod Inputs
+pub mod Unique

@@ -1,0 +1,4 @@
+pub mod Kept
+mod Listed
+mod Meant
+mod Outcomes

@@ -1,0 +1,5 @@
+pub mod Numbers
+pub mod Machine
+pub mod Ready
+pub mod Reads
+pub mod Steps
