@@ -151,38 +151,44 @@ module _ {before after : List ℕ} {i more : ℕ} {changed : Bool} (inside : i <
 -- ---- turns
 
 -- each step of a turn visits a node below the count
-pub visited-inside : (count i : ℕ) → i < 2 * count → visitedAt count i < count
-visited-inside count i below = go (decLt i count)
-  where
-    go : Dec (i < count) → visitedAt count i < count
-    go (yes up) = rw (lt-ltb i count up) up
-    go (no down) = rw (le-ltb i count (omega arith)) (omega arith)
+visited-inside : (count : ℕ) (downward : Bool) (i : ℕ) → i < count → visitedAt count downward i < count
+visited-inside count true i below = omega arith
+visited-inside count false i below = below
+
+-- the step at which a node is visited is the node that is visited at the step of its number
+visited-back : (count : ℕ) (downward : Bool) (n : ℕ) → n < count → visitedAt count downward (visitedAt count downward n) ≡ n
+visited-back count true n below = omega arith
+visited-back count false n below = refl
 
 -- the first steps of a turn have been made
-pub record Turning (By : ℕ → ℕ → Type 0) (Closed : List ℕ → ℕ → Type 0) (count : ℕ) (before after : List ℕ) (i : ℕ) (changed : Bool) : Type 0 where
+pub record Turning (By : ℕ → ℕ → Type 0) (Closed : List ℕ → ℕ → Type 0) (count : ℕ) (downward : Bool) (before after : List ℕ) (i : ℕ) (changed : Bool) : Type 0 where
   pub grown : Grown By before after changed
-  pub closed : changed ≡ false → (n : ℕ) → n < count → n < i → Closed before n
+  pub closed : changed ≡ false → (j : ℕ) → j < i → Closed before (visitedAt count downward j)
 
-module _ {By : ℕ → ℕ → Type 0} {Closed : List ℕ → ℕ → Type 0} {count : ℕ} where
-  pub turning-none : (sets : List ℕ) → Turning By Closed count sets sets 0 false
-  turning-none sets = record { grown = grown-none sets; closed = λ e n below l. absurd (omega arith) }
+module _ {By : ℕ → ℕ → Type 0} {Closed : List ℕ → ℕ → Type 0} {count : ℕ} {downward : Bool} where
+  pub turning-none : (sets : List ℕ) → Turning By Closed count downward sets sets 0 false
+  turning-none sets = record { grown = grown-none sets; closed = λ e j l. absurd (omega arith) }
 
-  pub turning-more : {before between after : List ℕ} {i n : ℕ} {c d : Bool} → Turning By Closed count before between i c → i < 2 * count
-      → n ≡ visitedAt count i → Visited By Closed n between after d → Turning By Closed count before after (i + 1) (c || d)
-  turning-more {before} {between} {after} {i} {n} {c} {d} turning below at visited = record {
+  pub turning-more : {before between after : List ℕ} {i n : ℕ} {c d : Bool} → Turning By Closed count downward before between i c
+      → n ≡ visitedAt count downward i → Visited By Closed n between after d → Turning By Closed count downward before after (i + 1) (c || d)
+  turning-more {before} {between} {after} {i} {n} {c} {d} turning at visited = record {
     grown = grown-then (turning .grown) (visited .grown);
-    closed = λ e m inside l. closed m inside (or-false c d e) (ℕ-discrete m i) l;
+    closed = λ e j l. closed j (or-false c d e) (ℕ-discrete j i) l;
   }
     where
-      closed : (m : ℕ) → m < count → (c ≡ false) × (d ≡ false) → Dec (m ≡ i) → m < i + 1 → Closed before m
-      closed m inside (e, f) (yes same) l =
-          let upward : n ≡ m = at ∙ ap (λ (t : Bool). cond t i (2 * count - 1 - i)) (lt-ltb i count (rw same at inside)) ∙ sym same in
-          subst₂ Closed (turning .grown .still e) upward (visited .closed f)
-      closed m inside (e, f) (no other) l = turning .closed e m inside (omega arith)
+      closed : (j : ℕ) → (c ≡ false) × (d ≡ false) → Dec (j ≡ i) → j < i + 1 → Closed before (visitedAt count downward j)
+      closed j (e, f) (yes same) l =
+          subst₂ Closed (turning .grown .still e) (at ∙ ap (visitedAt count downward) (sym same)) (visited .closed f)
+      closed j (e, f) (no other) l = turning .closed e j (omega arith)
 
-  pub turning-end : {before after : List ℕ} {i : ℕ} {c : Bool} → Turning By Closed count before after i c → 2 * count ≤ i
+  pub turning-end : {before after : List ℕ} {i : ℕ} {c : Bool} → Turning By Closed count downward before after i c → count ≤ i
       → Turned By Closed count before after c
-  turning-end turning end = record { grown = turning .grown; closed = λ e n below. turning .closed e n below (omega arith) }
+  turning-end {before} turning end = record {
+    grown = turning .grown;
+    closed = λ e n below.
+        subst (Closed before) (visited-back count downward n below)
+        (turning .closed e (visitedAt count downward n) (omega (arith, visited-inside count downward n below)));
+  }
 
 -- ---- turns until one changes nothing
 

@@ -6,8 +6,8 @@ use mathlib.Core.List.{List}
 use mathlib.Core.Logic.{_⊎_, inl, inr, ⊎-elim}
 use native.Mathlib.Omega.{arith}
 use lib.ListN.{length, getD}
-use Rattle.kinds.specs.Kinds.{Has, has?}
-use Rattle.kinds.proofs.Laws.{none, has-single, has?-is}
+use Rattle.kinds.specs.Kinds.{Has, onlyKind}
+use Rattle.kinds.proofs.Laws.{has-single}
 use Rattle.book.specs.Book.{Proper}
 use Rattle.book.specs.Decode.{nodeAt, nodes, GoodNodes}
 use Rattle.book.specs.declared.Node.{Node}
@@ -15,44 +15,42 @@ use Rattle.book.specs.declared.Node.the-variants.{Fail, Empty, Token, Either, T
 use Rattle.rules.specs.Rules.{Child, either-left, either-right, then-left, then-right, tagged-left, ref-left, Reach, r-start, r-child}
 use Rattle.rules.specs.Facts.{Marked, Reached}
 use Rattle.rules.specs.Growth.{Sound, Blank, Joined, Grown, Turned}
-use Rattle.rules.specs.Step.{leftFrom, rightFrom, markOf, ReachAt, ChildClosed, Spread}
-use Rattle.rules.proofs.Growing.{or-false, grown-then, grown-sound, blank-sound, joined-grown, joined-has, joined-held}
+use Rattle.rules.specs.Step.{leftFrom, rightFrom, ReachAt, ChildClosed, Spread}
+use Rattle.rules.proofs.Growing.{or-false, grown-none, grown-then, grown-sound, blank-sound, joined-grown, joined-has, joined-held}
 use Rattle.rules.proofs.Reading.{left-below, right-below, node-is, left-inside, right-inside}
 
 -- ---- marks
 
--- the set of one place or none has that place if it is told to
-mark-has : (marked : Bool) (n k : ℕ) → Has (markOf marked (n % 64)) k → (marked ≡ true) × (k ≡ n % 64)
-mark-has true n k has = (refl, has-single k (n % 64) .0 has)
-mark-has false n k has = absurd (none has)
-
-module _ {before after : List ℕ} {n : ℕ} {marked changed : Bool} (inside : n / 64 < length before)
-    (joined : Joined before after (n / 64) (markOf marked (n % 64)) changed) where
+module _ {before after : List ℕ} {n : ℕ} {changed : Bool} (inside : n / 64 < length before)
+    (joined : Joined before after (n / 64) (onlyKind (n % 64)) changed) where
   -- a mark set on a reachable node is growth by reaching
-  pub mark-grown : {node : ℕ → Node} {start : ℕ} → (marked ≡ true → Reach node start n) → Grown (ReachAt node start) before after changed
+  pub mark-grown : {node : ℕ → Node} {start : ℕ} → Reach node start n → Grown (ReachAt node start) before after changed
   mark-grown {node} {start} reach = joined-grown inside joined by
     where
-      by : (k : ℕ) → Has (markOf marked (n % 64)) k → ReachAt node start (n / 64) k
+      by : (k : ℕ) → Has (onlyKind (n % 64)) k → ReachAt node start (n / 64) k
       by k has =
-          let (told, place) = mark-has marked n k has in
-          let whole : 64 * (n / 64) + k ≡ n = omega arith in
-          record { reach = rw whole (reach told) }
+          let whole : 64 * (n / 64) + k ≡ n = omega (arith, has-single k (n % 64) .0 has) in
+          record { reach = rw whole reach }
+
+  -- the node is then marked
+  pub mark-set : Marked after n
+  mark-set = record { mark = joined-has inside joined (n % 64) (has-single (n % 64) (n % 64) .1 refl) }
 
   -- where a mark is not new, it was there
-  pub mark-held : marked ≡ true → changed ≡ false → Marked before n
-  mark-held told unchanged = record { mark = joined-held inside joined unchanged (n % 64) (rw told (has-single (n % 64) (n % 64) .1 refl)) }
+  pub mark-held : changed ≡ false → Marked before n
+  mark-held unchanged = record { mark = joined-held inside joined unchanged (n % 64) (has-single (n % 64) (n % 64) .1 refl) }
 
 -- blank marks with the start marked are sound, and have the start
 module _ {before after : List ℕ} {start : ℕ} {changed : Bool} (blank : Blank 8 before) (few : start < 512)
-    (joined : Joined before after (start / 64) (markOf true (start % 64)) changed) where
+    (joined : Joined before after (start / 64) (onlyKind (start % 64)) changed) where
   start-in : start / 64 < length before
   start-in = omega (arith, blank .long)
 
   pub start-sound : {node : ℕ → Node} → Sound (ReachAt node start) after
-  start-sound = grown-sound (mark-grown {marked = true} start-in joined (λ told. r-start)) (blank-sound blank)
+  start-sound = grown-sound (mark-grown start-in joined r-start) (blank-sound blank)
 
   pub start-marked : Marked after start
-  start-marked = record { mark = joined-has start-in joined (start % 64) (has-single (start % 64) (start % 64) .1 refl) }
+  start-marked = mark-set start-in joined
 
 marked-reach : {node : ℕ → Node} {start : ℕ} {marks : List ℕ} {n : ℕ} → Sound (ReachAt node start) marks → Marked marks n → Reach node start n
 marked-reach {node} {start} {marks} {n} sound marked =
@@ -93,12 +91,11 @@ module _ {node : ℕ → Node} {start n : ℕ} (reach : Reach node start n) wher
   reach-right (Tagged l t) is = reach
   reach-right (Ref l) is = reach
 
--- a node that was read, whose left and right have been marked if it is marked
-module _ {bytes : List ℕ} {base count n l r : ℕ} {at : Node} {before between after : List ℕ} {marked c d : Bool}
+-- a marked node that was read, whose left and right have been marked
+module _ {bytes : List ℕ} {base count n l r : ℕ} {at : Node} {before between after : List ℕ} {c d : Bool}
     (good : GoodNodes bytes base count 64) (below : n < count) (read : at ≡ nodeAt bytes base n) (room : 8 ≤ length before)
-    (marked-is : marked ≡ has? (getD before (n / 64) 0) (n % 64)) (l-is : l ≡ leftFrom n at)
-    (left : Joined before between (l / 64) (markOf marked (l % 64)) c) (r-is : r ≡ rightFrom n at)
-    (right : Joined between after (r / 64) (markOf marked (r % 64)) d) where
+    (here : Marked before n) (l-is : l ≡ leftFrom n at) (left : Joined before between (l / 64) (onlyKind (l % 64)) c)
+    (r-is : r ≡ rightFrom n at) (right : Joined between after (r / 64) (onlyKind (r % 64)) d) where
   is : nodes bytes base count n ≡ at
   is = sym (node-is good below read)
 
@@ -106,34 +103,39 @@ module _ {bytes : List ℕ} {base count n l r : ℕ} {at : Node} {before between
   l-in = omega (arith, left-inside good below read, good .few-nodes)
 
   module _ (start : ℕ) (sound : Sound (ReachAt (nodes bytes base count) start) before) where
-    reach-here : marked ≡ true → Reach (nodes bytes base count) start n
-    reach-here told = marked-reach sound (record { mark = has?-is _ _ .0 (sym marked-is ∙ told) })
-
     first : Grown (ReachAt (nodes bytes base count) start) before between c
-    first = mark-grown l-in left (λ told. rw l-is (reach-left (reach-here told) at is))
+    first = mark-grown l-in left (rw l-is (reach-left (marked-reach sound here) at is))
 
     r-in : r / 64 < length between
     r-in = omega (arith, right-inside good below read, good .few-nodes, first .long)
 
     second : Grown (ReachAt (nodes bytes base count) start) between after d
-    second = mark-grown r-in right (λ told. rw r-is (reach-right (reach-here told) at is))
+    second = mark-grown r-in right (rw r-is (reach-right (marked-reach sound here) at is))
 
-    closed : (c || d) ≡ false → (m : ℕ) → Child (nodes bytes base count n) m → Marked before n → Marked before m
-    closed unchanged m child here =
-        let told : marked ≡ true = marked-is ∙ has?-is _ _ .1 (here .mark) in
+    closed : (c || d) ≡ false → (m : ℕ) → Child (nodes bytes base count n) m → Marked before m
+    closed unchanged m child =
         let (e, f) = or-false c d unchanged in
         ⊎-elim
-        (λ same. subst (Marked before) (l-is ∙ same) (mark-held l-in left told e))
-        (λ same. subst (Marked before) (r-is ∙ same) (rw (first .still e) at (mark-held r-in right told f)))
+        (λ same. subst (Marked before) (l-is ∙ same) (mark-held l-in left e))
+        (λ same. subst (Marked before) (r-is ∙ same) (rw (first .still e) at (mark-held r-in right f)))
         (child-side n (rw is at child))
 
   pub children-spread : Spread (nodes bytes base count) n before after (c || d)
   children-spread = record {
     from = λ start sound. record {
       grown = grown-then (first start sound) (second start sound);
-      closed = λ unchanged. record { children = closed start sound unchanged };
+      closed = λ unchanged. record { children = λ m child marked. closed start sound unchanged m child };
     };
   }
+
+-- a node that is not marked has nothing to spread
+pub none-spread : {node : ℕ → Node} {marks : List ℕ} {n : ℕ} → (Marked marks n → ⊥) → Spread node n marks marks false
+none-spread {node} {marks} unmarked = record {
+  from = λ start sound. record {
+    grown = grown-none marks;
+    closed = λ unchanged. record { children = λ m child marked. absurd (unmarked marked) };
+  };
+}
 
 -- ---- all reachable nodes
 

@@ -1,10 +1,10 @@
 -- A list of sets that only grows.
-use Prim.Native.Nat.{ℕ, _+_, _*_, _-_, _≤_, _<_}
+use Prim.Native.Nat.{ℕ, _+_, _-_, _≤_, _<_}
 use mathlib.Core.Path.{_≡_}
 use mathlib.Core.Bool.{Bool, true, false, not, cond}
 use mathlib.Core.List.{List, [], _∷_}
 use mathlib.Core.Logic.{_⊎_}
-use lib.Dec.{ltb, eqb}
+use lib.Dec.{eqb}
 use lib.ListN.{length, getD, set}
 use Rattle.kinds.specs.Kinds.{Has, joined}
 
@@ -45,6 +45,6 @@ pub record Turned (By : ℕ → ℕ → Type 0) (Closed : List ℕ → ℕ → T
   pub grown : Grown By before after changed
   pub closed : changed ≡ false → (n : ℕ) → n < count → Closed before n
 
--- the node visited at a step of a turn: all nodes upward, then all downward
-abbrev pub visitedAt : ℕ → ℕ → ℕ
-visitedAt count i = cond (ltb i count) i (2 * count - 1 - i)
+-- the node visited at a step of a turn, downward or upward
+abbrev pub visitedAt : ℕ → Bool → ℕ → ℕ
+visitedAt count downward i = cond downward (count - 1 - i) i

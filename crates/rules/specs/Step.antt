@@ -144,7 +144,3 @@ pub record Spread (node : ℕ → Node) (n : ℕ) (before after : List ℕ) (cha
 -- the children of all marked nodes have been marked: from any start, all by reaching
 pub record SpreadAll (node : ℕ → Node) (count : ℕ) (before after : List ℕ) (changed : Bool) : Type 0 where
   pub from : (start : ℕ) → Sound (ReachAt node start) before → Turned (ReachAt node start) (ChildClosed node) count before after changed
-
--- the set of one place or of none
-abbrev pub markOf : Bool → ℕ → ℕ
-markOf marked k = cond marked (onlyKind k) 0

@@ -2,12 +2,12 @@
 ghost use mathlib.Core.Path.{_≡_};
 ghost use Prim.Native.Nat.{ℕ, _+_, _*_, _/_, _%_, _≤_, _<_};
 ghost use lib.ListN.{length, getD};
-ghost use Rattle.kinds.specs.Kinds.{has?};
+ghost use Rattle.kinds.specs.Kinds.{has?, onlyKind};
 ghost use Rattle.book.specs.Decode.{nodes, GoodNodes};
 ghost use Rattle.rules.specs.Facts.{Facts, Reached, Marked};
 ghost use Rattle.rules.specs.Conflicts.{ConflictAt, Conflicting, LowestConflict};
 ghost use Rattle.rules.specs.Growth.{Sound, Blank, Joined, Grown, Visited, Turned, visitedAt};
-ghost use Rattle.rules.specs.Step.{leftFrom, rightFrom, kindOf, factsAt, eitherFacts, thenFacts, ruledOf, EitherReport, reportedOf, FactAt, Given, Holds, RuleClosed, Spread, SpreadAll, markOf};
+ghost use Rattle.rules.specs.Step.{leftFrom, rightFrom, kindOf, factsAt, eitherFacts, thenFacts, ruledOf, EitherReport, reportedOf, FactAt, Given, Holds, RuleClosed, Spread, SpreadAll};
 use book::Node;
 
 // What is answered for a node without a conflict.
@@ -161,16 +161,16 @@ fn visit(book: &[u8], base: usize, count: usize, n: usize, table: &mut [u64]) ->
     put(table, n, ruled(node, left, right))
 }
 
-// The node visited at a step of a turn: all nodes upward, then all downward.
-fn visited(count: usize, i: usize) -> usize
-    requires { ⌜ (i < 2 * count) × (count ≤ 512) ⌝ }
-    ensures { λ r. ⌜ r ≡ visitedAt count i ⌝ }
+// The node visited at a step of a turn, downward or upward.
+fn visited(count: usize, downward: bool, i: usize) -> usize
+    requires { ⌜ i < count ⌝ }
+    ensures { λ r. ⌜ (r ≡ visitedAt count downward i) × (r < count) ⌝ }
 {
-    if i < count { i } else { 2 * count - 1 - i }
+    if downward { count - 1 - i } else { i }
 }
 
-// Visits every node, upward and then downward. Whether any fact changed.
-fn turn(book: &[u8], base: usize, count: usize, table: &mut [u64]) -> bool
+// Visits every node once, downward or upward. Whether any fact changed.
+fn turn(book: &[u8], base: usize, count: usize, downward: bool, table: &mut [u64]) -> bool
     requires { ⌜ GoodNodes (now book) base count 64 ⌝ }
     requires { ⌜ 4 * count ≤ length (now table) ⌝ }
     requires { ⌜ Sound (FactAt (nodes (now book) base count)) (now table) ⌝ }
@@ -178,20 +178,24 @@ fn turn(book: &[u8], base: usize, count: usize, table: &mut [u64]) -> bool
 {
     let mut changed = false;
     let mut i = 0;
-    while i < 2 * count {
-        changed = changed | visit(book, base, count, visited(count, i), table);
+    while i < count {
+        changed = changed | visit(book, base, count, visited(count, downward, i), table);
         i += 1;
     }
     changed
 }
 
-// Fills the table, which is blank, with the facts of all nodes: turns until one changes nothing.
+// Fills the table, which is blank, with the facts of all nodes: turns, upward and downward by turns, until one changes nothing. Upward
+// comes first, since all but refs have lower sides.
 pub fn least_facts(book: &[u8], base: usize, count: usize, table: &mut [u64])
     requires { ⌜ GoodNodes (now book) base count 64 ⌝ }
     requires { ⌜ Blank (4 * count) (now table) ⌝ }
     ensures { λ _. ⌜ Facts (nodes (now (book .entry)) base count) count (now (table .exit)) ⌝ }
 {
-    while turn(book, base, count, table) {}
+    let mut downward = false;
+    while turn(book, base, count, downward, table) {
+        downward = !downward;
+    }
 }
 
 // Whether a node is marked, 64 nodes to a set.
@@ -202,20 +206,26 @@ fn is_marked(marks: &[u64], n: usize) -> bool
     kinds::has(marks[n / 64], n % 64)
 }
 
-// The set of one place, or the empty set.
-fn mark_of(marked: bool, place: usize) -> u64
-    requires { ⌜ place < 64 ⌝ }
-    ensures { λ r. ⌜ r ≡ markOf marked place ⌝ }
+// Marks a node. Whether the mark is new.
+fn mark(marks: &mut [u64], n: usize) -> bool
+    requires { ⌜ n / 64 < length (now marks) ⌝ }
+    ensures { λ r. ⌜ Joined (now (marks .entry)) (now (marks .exit)) (n / 64) (onlyKind (n % 64)) r ⌝ }
 {
-    if marked { kinds::single(place) } else { 0 }
+    grow(marks, n / 64, kinds::single(n % 64))
 }
 
-// Marks a node if told to. Whether the mark is new.
-fn mark(marks: &mut [u64], n: usize, marked: bool) -> bool
-    requires { ⌜ n / 64 < length (now marks) ⌝ }
-    ensures { λ r. ⌜ Joined (now (marks .entry)) (now (marks .exit)) (n / 64) (markOf marked (n % 64)) r ⌝ }
+// Marks the children of a node. Whether any mark is new.
+fn mark_children(book: &[u8], base: usize, count: usize, n: usize, marks: &mut [u64]) -> bool
+    requires { ⌜ GoodNodes (now book) base count 64 ⌝ }
+    requires { ⌜ n < count ⌝ }
+    requires { ⌜ 8 ≤ length (now marks) ⌝ }
+    requires { ⌜ Marked (now marks) n ⌝ }
+    ensures { λ r. ⌜ Spread (nodes (now (book .entry)) base count) n (now (marks .entry)) (now (marks .exit)) r ⌝ }
 {
-    grow(marks, n / 64, mark_of(marked, n % 64))
+    let node = book::node_at(book, base, n);
+    let left = mark(marks, left_from(n, node));
+    let right = mark(marks, right_from(n, node));
+    left | right
 }
 
 // Marks the children of a node if it is marked. Whether any mark is new.
@@ -225,37 +235,41 @@ fn spread(book: &[u8], base: usize, count: usize, n: usize, marks: &mut [u64]) -
     requires { ⌜ 8 ≤ length (now marks) ⌝ }
     ensures { λ r. ⌜ Spread (nodes (now (book .entry)) base count) n (now (marks .entry)) (now (marks .exit)) r ⌝ }
 {
-    let node = book::node_at(book, base, n);
-    let marked = is_marked(marks, n);
-    let left = mark(marks, left_from(n, node), marked);
-    let right = mark(marks, right_from(n, node), marked);
-    left | right
+    if is_marked(marks, n) {
+        mark_children(book, base, count, n, marks)
+    } else {
+        false
+    }
 }
 
-// Marks the children of every marked node, upward and then downward. Whether any mark is new.
-fn spread_all(book: &[u8], base: usize, count: usize, marks: &mut [u64]) -> bool
+// Marks the children of every marked node, downward or upward. Whether any mark is new.
+fn spread_all(book: &[u8], base: usize, count: usize, downward: bool, marks: &mut [u64]) -> bool
     requires { ⌜ GoodNodes (now book) base count 64 ⌝ }
     requires { ⌜ 8 ≤ length (now marks) ⌝ }
     ensures { λ r. ⌜ SpreadAll (nodes (now (book .entry)) base count) count (now (marks .entry)) (now (marks .exit)) r ⌝ }
 {
     let mut changed = false;
     let mut i = 0;
-    while i < 2 * count {
-        changed = changed | spread(book, base, count, visited(count, i), marks);
+    while i < count {
+        changed = changed | spread(book, base, count, visited(count, downward, i), marks);
         i += 1;
     }
     changed
 }
 
-// Marks the reachable nodes, in marks that are blank: turns until one changes nothing.
+// Marks the reachable nodes, in marks that are blank: turns, downward and upward by turns, until one changes nothing. Downward comes
+// first, since all but refs have lower children.
 pub fn reach(book: &[u8], base: usize, count: usize, start: usize, marks: &mut [u64])
     requires { ⌜ GoodNodes (now book) base count 64 ⌝ }
     requires { ⌜ start < count ⌝ }
     requires { ⌜ Blank 8 (now marks) ⌝ }
     ensures { λ _. ⌜ Reached (nodes (now (book .entry)) base count) start count (now (marks .exit)) ⌝ }
 {
-    mark(marks, start, true);
-    while spread_all(book, base, count, marks) {}
+    mark(marks, start);
+    let mut downward = true;
+    while spread_all(book, base, count, downward, marks) {
+        downward = !downward;
+    }
 }
 
 // What is reported at an either, where both sides are nullable before the lowest kind shared.

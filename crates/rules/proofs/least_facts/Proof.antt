@@ -10,10 +10,10 @@ use Rattle.rules.proofs.least_facts.Statement.{statement}
 use Rattle.rules.proofs.least_facts.Tie as tie
 
 abbrev Inv-loop : tie.InvT-loop
-Inv-loop book base count table₀ table = Settling (FactAt (nodes book base count)) table₀ table
+Inv-loop book base count table₀ downward₀ table downward = Settling (FactAt (nodes book base count)) table₀ table
 
 abbrev μ-loop : tie.MeasureT-loop
-μ-loop book base count table₀ table = roomLeft (length table₀) table
+μ-loop book base count table₀ downward₀ table downward = roomLeft (length table₀) table
 
 loop-holds : tie.Need-loop-holds Inv-loop μ-loop
 loop-holds c = settling-none (blank-sound (c .before .before .pre .1))

@@ -3,8 +3,8 @@ use borrow.Author.Needs.{needs}
 use Rattle.rules.proofs.mark.Statement.{statement}
 use Rattle.rules.proofs.mark.Tie as tie
 
-mark-of-requires : tie.Need-mark-of-requires
-mark-of-requires c κs = search needs
+single-requires : tie.Need-single-requires
+single-requires c κs = search needs
 
 grow-requires : tie.Need-grow-requires
 grow-requires c κs = search needs
@@ -13,7 +13,7 @@ same-length : tie.Need-same-length
 same-length c = search needs
 
 returns : tie.Need-returns
-returns c = rw (c .before .before .before .mark-of .ensures) at (c .before .before .grow .ensures)
+returns c = rw (c .before .before .before .single .ensures) at (c .before .before .grow .ensures)
 
 pub mark-spec : {M : Type 1} → statement M
-mark-spec = tie.close (tie.spec mark-of-requires grow-requires same-length returns)
+mark-spec = tie.close (tie.spec single-requires grow-requires same-length returns)

@@ -11,10 +11,10 @@ use Rattle.rules.proofs.reach.Statement.{statement}
 use Rattle.rules.proofs.reach.Tie as tie
 
 abbrev Inv-loop : tie.InvT-loop
-Inv-loop book base count start marks₀ marks = Settling (ReachAt (nodes book base count) start) marks₀ marks
+Inv-loop book base count start marks₀ downward₀ marks downward = Settling (ReachAt (nodes book base count) start) marks₀ marks
 
 abbrev μ-loop : tie.MeasureT-loop
-μ-loop book base count start marks₀ marks = roomLeft (length marks₀) marks
+μ-loop book base count start marks₀ downward₀ marks downward = roomLeft (length marks₀) marks
 
 mark-requires : tie.Need-mark-requires Inv-loop μ-loop
 mark-requires c κs = omega (arith, c .before .before .before .pre .0 .few-nodes, c .before .before .before .pre .1 .1 .long)

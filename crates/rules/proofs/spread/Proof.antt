@@ -1,54 +1,40 @@
--- `rules::spread` meets its contract: the node is read, and its left and right are marked if it is.
+-- `rules::spread` meets its contract: a marked node's children are marked, and another has nothing to spread.
+use mathlib.Core.Path.{sym, _∙_}
+use mathlib.Core.Bool.{true≢false}
 use native.Mathlib.Omega.{arith}
 use borrow.Author.Needs.{needs}
-use Rattle.rules.proofs.Reading.{left-inside, right-inside}
-use Rattle.rules.proofs.Spreading.{children-spread}
+use Rattle.kinds.proofs.Laws.{has?-is}
+use Rattle.rules.proofs.Spreading.{none-spread}
 use Rattle.rules.proofs.spread.Statement.{statement}
 use Rattle.rules.proofs.spread.Tie as tie
-
-node-at-requires : tie.Need-node-at-requires
-node-at-requires c κs = search needs
 
 is-marked-requires : tie.Need-is-marked-requires
 is-marked-requires c κs = search needs
 
-left-from-requires : tie.Need-left-from-requires
-left-from-requires c κs = search needs
-
-mark-requires : tie.Need-mark-requires
-mark-requires c κs =
-    let pre = c .before .before .before .before .before .before .before .pre in
-    omega (arith, c .left-from .ensures, left-inside (pre .0) (pre .1 .0) (c .before .before .before .before .node-at .ensures), pre .0 .few-nodes)
-
-right-from-requires : tie.Need-right-from-requires
-right-from-requires c κs = search needs
-
-mark-requires-2 : tie.Need-mark-requires-2
-mark-requires-2 c κs =
-    let pre = c .before .before .before .before .before .before .before .before .before .before .before .before .pre in
-    omega (arith, c .right-from .ensures, right-inside (pre .0) (pre .1 .0) (c .before .before .before .before .before .before .before .before .before .node-at .ensures), pre .0 .few-nodes, c .before .before .before .before .mark .kept .0)
+mark-children-requires : tie.Need-mark-children-requires
+mark-children-requires c κs =
+    let pre = c .before .before .before .before .before .before .pre in
+    (pre .0, (pre .1 .0, (pre .1 .1, record { mark = has?-is _ _ .0 (sym (c .before .before .is-marked .ensures) ∙ c .before .if1 .taken) })))
 
 same-length : tie.Need-same-length
 same-length c = search needs
 
 returns : tie.Need-returns
-returns c =
-    let pre = c .before .before .before .before .before .before .before .before .before .before .before .before .before .before .before .pre in
-    children-spread (pre .0) (pre .1 .0) (c .before .before .before .before .before .before .before .before .before .before .before .before .node-at .ensures) (pre .1 .1) (c .before .before .before .before .before .before .before .before .before .before .is-marked .ensures)
-    (c .before .before .before .before .before .before .before .before .left-from .ensures)
-    (c .before .before .before .before .before .before .before .mark .ensures)
-    (c .before .before .before .right-from .ensures)
-    (c .before .before .mark2 .ensures)
+returns c = c .before .before .mark-children .ensures
+
+same-length-2 : tie.Need-same-length-2
+same-length-2 c = search needs
+
+returns-2 : tie.Need-returns-2
+returns-2 c = none-spread (λ marked. true≢false (sym (has?-is _ _ .1 (marked .mark)) ∙ sym (c .before .is-marked .ensures) ∙ c .if1 .left))
 
 pub spread-spec : {M : Type 1} → statement M
 spread-spec =
     tie.close
     (tie.spec
-    node-at-requires
     is-marked-requires
-    left-from-requires
-    mark-requires
-    right-from-requires
-    mark-requires-2
+    mark-children-requires
     same-length
-    returns)
+    returns
+    same-length-2
+    returns-2)

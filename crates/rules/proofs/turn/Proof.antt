@@ -1,25 +1,22 @@
 -- `rules::turn` meets its contract. The loop's invariant: the first steps of the turn have been made. The measure is what is left of them.
-use Prim.Native.Nat.{_*_, _-_}
+use Prim.Native.Nat.{_-_}
 use native.Mathlib.Omega.{arith}
 use borrow.Author.Needs.{needs}
 use Rattle.book.specs.Decode.{nodes}
 use Rattle.rules.specs.Step.{FactAt, RuleClosed}
-use Rattle.rules.proofs.Growing.{Turning, turning-none, turning-more, turning-end, grown-sound, visited-inside}
+use Rattle.rules.proofs.Growing.{Turning, turning-none, turning-more, turning-end, grown-sound}
 use Rattle.rules.proofs.turn.Statement.{statement}
 use Rattle.rules.proofs.turn.Tie as tie
 
 abbrev Inv-loop : tie.InvT-loop
-Inv-loop book base count table₀ changed₀ i₀ table changed i =
-    Turning (FactAt (nodes book base count)) (RuleClosed (nodes book base count)) count table₀ table i changed
+Inv-loop book base count downward table₀ changed₀ i₀ table changed i =
+    Turning (FactAt (nodes book base count)) (RuleClosed (nodes book base count)) count downward table₀ table i changed
 
 abbrev μ-loop : tie.MeasureT-loop
-μ-loop book base count table₀ changed₀ i₀ table changed i = 2 * count - i
+μ-loop book base count downward table₀ changed₀ i₀ table changed i = count - i
 
 loop-holds : tie.Need-loop-holds Inv-loop μ-loop
 loop-holds c = turning-none _
-
-mul-loop : tie.Need-mul-loop Inv-loop μ-loop
-mul-loop c = search needs
 
 visited-requires : tie.Need-visited-requires Inv-loop μ-loop
 visited-requires c κs = search needs
@@ -30,7 +27,7 @@ visit-requires c κs =
     let pre = c .before .before .before .before .before .before .pre in (
       pre .0,
       (
-        rw (c .before .visited .ensures) (visited-inside _ _ (c .before .before .loop-test .taken)),
+        c .before .visited .ensures .1,
         (omega (arith, turning .grown .long, pre .1 .0), grown-sound (turning .grown) (pre .1 .1)),
       ),
     )
@@ -43,7 +40,7 @@ loop-less c = search needs
 
 loop-again : tie.Need-loop-again Inv-loop μ-loop
 loop-again c =
-    turning-more (c .before .before .before .before .before .before .loop .inv) (c .before .before .before .before .before .loop-test .taken) (c .before .before .before .before .visited .ensures) (c .before .before .visit .ensures)
+    turning-more (c .before .before .before .before .before .before .loop .inv) (c .before .before .before .before .visited .ensures .0) (c .before .before .visit .ensures)
 
 same-length : tie.Need-same-length Inv-loop μ-loop
 same-length c = c .before .loop .inv .grown .long
@@ -58,7 +55,6 @@ turn-spec =
     Inv-loop
     μ-loop
     loop-holds
-    mul-loop
     visited-requires
     visit-requires
     add-i
