@@ -4,12 +4,6 @@ use crate::answers::*;
 use crate::book::*;
 use crate::form::{improper, settings_proper};
 
-/// Where the settings stand in a plan.
-const PLAN_SETTINGS: usize = 20;
-
-/// Where the nodes begin in a plan.
-const PLAN_NODES: usize = 24;
-
 /// The most events that are read.
 pub const MOST_EVENTS: usize = 65_535;
 
@@ -21,9 +15,9 @@ const SKIP_LEFT: u8 = 4;
 const GO_RIGHT: u8 = 5;
 
 /// A plan taken apart: its settings and nodes, and its rows.
-struct Plan<'a> {
-    book: Book,
-    cells: &'a [u8],
+pub struct Plan<'a> {
+    pub book: Book,
+    pub cells: &'a [u8],
 }
 
 /// A plan being run: the held parts, the last one held last, and the records so far.
@@ -97,7 +91,7 @@ fn refusal(number: u32, place: usize, expected: u64) -> Reading {
 }
 
 /// The plan taken apart, if its length, contents, settings and nodes are right.
-fn taken_apart(plan: &[u8]) -> Option<Plan<'_>> {
+pub fn taken_apart(plan: &[u8]) -> Option<Plan<'_>> {
     let contents = words_of(plan.get(..PLAN_SETTINGS)?);
     let rows_at = usize::from(contents[8]);
     let book = Book::of(plan.get(PLAN_SETTINGS..rows_at.max(PLAN_NODES))?);

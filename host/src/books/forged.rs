@@ -75,17 +75,21 @@ fn misfit(random: &mut Random, book: &Book, plan: &mut [u8]) {
     let count = change(random, book.nodes.len());
     let kinds = change(random, usize::from(book.kinds));
     let nodes = NODE_BYTES * count;
-    for (at, word) in [(12, nodes), (16, 24 + nodes), (18, count * (kinds + 1))] {
+    for (at, word) in [
+        (12, nodes),
+        (16, PLAN_NODES + nodes),
+        (18, count * (kinds + 1)),
+    ] {
         plan[at..at + 2].copy_from_slice(&(word as u16).to_le_bytes());
     }
     if random.once_in(2) {
-        plan[20..22].copy_from_slice(&(kinds as u16).to_le_bytes());
+        plan[PLAN_SETTINGS..PLAN_SETTINGS + 2].copy_from_slice(&(kinds as u16).to_le_bytes());
     }
 }
 
 /// Where the rows begin in the plan of a book.
 fn rows_at(book: &Book) -> usize {
-    24 + NODE_BYTES * book.nodes.len()
+    PLAN_NODES + NODE_BYTES * book.nodes.len()
 }
 
 /// The rows of a plan of the book.

@@ -6,15 +6,18 @@ use std::mem::size_of;
 use std::ptr::null_mut;
 use std::slice;
 
+/// How many numbers beside a lent part are watched.
+const BESIDE: usize = 64;
+
 const PAGE: usize = 4096;
 const PROT_NONE: i32 = 0;
-const PROT_READ: i32 = 1;
-const PROT_WRITE: i32 = 2;
+pub(crate) const PROT_READ: i32 = 1;
+pub(crate) const PROT_WRITE: i32 = 2;
 const MAP_PRIVATE: i32 = 2;
-const MAP_ANONYMOUS: i32 = 32;
+pub(crate) const MAP_ANONYMOUS: i32 = 32;
 
 extern "C" {
-    fn mmap(
+    pub(crate) fn mmap(
         at: *mut c_void,
         len: usize,
         prot: i32,
@@ -41,9 +44,9 @@ pub struct Lent<T> {
 }
 
 impl<T: Copy + PartialEq> Lent<T> {
-    /// Room for at least this many numbers.
+    /// Room for at least this many numbers, and those beside them.
     pub fn new(most: usize) -> Lent<T> {
-        let bytes = (most * size_of::<T>()).div_ceil(PAGE).max(1) * PAGE;
+        let bytes = ((most + BESIDE) * size_of::<T>()).next_multiple_of(PAGE);
         // SAFETY: a new private mapping; its two outer pages stay closed.
         let whole = unsafe {
             let flags = MAP_PRIVATE | MAP_ANONYMOUS;
@@ -60,30 +63,43 @@ impl<T: Copy + PartialEq> Lent<T> {
         lent
     }
 
-    /// Puts these numbers at an edge.
-    pub fn put(&mut self, values: &[T], edge: Edge) -> &[T] {
-        self.lend(values.len(), edge).copy_from_slice(values);
+    /// Puts these numbers at an edge, where they can only be read.
+    pub fn seal(&mut self, values: &[T], edge: Edge) -> &[T] {
+        self.open();
+        self.part_mut(values.len(), edge).copy_from_slice(values);
+        self.protect(PROT_READ);
         self.part(values.len(), edge)
     }
 
-    /// Lets the room only be read from now on.
-    pub fn seal(&self) {
-        self.protect(PROT_READ);
+    /// Lends a part of this many numbers at an edge, filled with garbage as those beside it are.
+    pub fn lend(&mut self, garbage: T, count: usize, edge: Edge) -> &mut [T] {
+        self.part_mut(count + BESIDE, edge).fill(garbage);
+        self.part_mut(count, edge)
     }
 
-    /// Lets the room be written again.
-    pub fn open(&self) {
+    /// Whether the numbers beside a lent part are still the garbage that was put there.
+    pub fn kept_beside(&self, garbage: T, count: usize, edge: Edge) -> bool {
+        let whole = self.part(count + BESIDE, edge);
+        let beside = match edge {
+            Edge::Begin => &whole[count..],
+            Edge::End => &whole[..BESIDE],
+        };
+        beside.iter().all(|&number| number == garbage)
+    }
+
+    /// Lets the room be written.
+    fn open(&self) {
         self.protect(PROT_READ | PROT_WRITE);
     }
 
     /// The part of this many numbers at an edge, to read.
-    pub fn part(&self, count: usize, edge: Edge) -> &[T] {
+    fn part(&self, count: usize, edge: Edge) -> &[T] {
         // SAFETY: the part lies within the open pages, and every bit pattern is a number.
         unsafe { slice::from_raw_parts(self.at(count, edge), count) }
     }
 
     /// The part of this many numbers at an edge, to write.
-    pub fn lend(&mut self, count: usize, edge: Edge) -> &mut [T] {
+    fn part_mut(&mut self, count: usize, edge: Edge) -> &mut [T] {
         // SAFETY: as in `part`, and the borrow is the only one.
         unsafe { slice::from_raw_parts_mut(self.at(count, edge), count) }
     }
