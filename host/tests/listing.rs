@@ -1,7 +1,7 @@
 //! The listing program against the independent rendering of what it must print.
 
 use host::answers::*;
-use host::book::LONGEST_BOOK;
+use host::book::{Book, EITHER, LONGEST_BOOK, TOKEN};
 use host::books::inputs::{any_input, input};
 use host::books::limits::{nested_run, nesting, rinse_run};
 use host::books::random::Random;
@@ -115,6 +115,35 @@ fn inputs_that_are_too_long() {
     }
 }
 
+/// Lawful runs of many lengths, and so outputs of many lengths.
+#[test]
+fn outputs_of_many_lengths() {
+    let mut pair = Pair::new();
+    for events in (2..2_100).step_by(3) {
+        pair.compare(&rinse_input(&rinse_run(events)), Delivery::Whole);
+    }
+    pair.tally.expect(&[DONE], 680);
+    pair.tally.expect(&[NO_ROOM], 10);
+}
+
+/// The greatest set of kinds, and the greatest kind alone.
+#[test]
+fn greatest_sets() {
+    let mut pair = Pair::new();
+    let mut nodes: Vec<_> = (0..64).map(|kind| (TOKEN, kind, 0)).collect();
+    nodes.extend((64..127).map(|own| (EITHER, own - 1, own - 64)));
+    let all = Book::ending(64, &nodes);
+    pair.expect_always(
+        &input(&all.bytes(), &[]),
+        "refused 14 0 18446744073709551615\n",
+    );
+    let last = Book { start: 63, ..all };
+    pair.expect_always(
+        &input(&last.bytes(), &[]),
+        "refused 14 0 9223372036854775808\n",
+    );
+}
+
 /// Trees and nesting at the room and the slots that the program has, and above them.
 #[test]
 fn room_and_slots() {
@@ -149,5 +178,5 @@ fn random_inputs() {
     ];
     pair.tally.expect(&often, 100);
     pair.tally.expect(&[INPUT_TOO_LONG, INPUT_TOO_SHORT], 200);
-    pair.tally.expect(&[SETTINGS, DEEP, NO_ROOM], 30);
+    pair.tally.expect(&[SETTINGS, DEEP, NO_ROOM], 15);
 }

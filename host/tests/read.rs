@@ -2,7 +2,7 @@
 
 use host::answers::*;
 use host::book::*;
-use host::books::forged::{any_plan, restless_plan};
+use host::books::forged::{any_plan, circle, restless_plan};
 use host::books::limits::{nesting, rinse_run, winding};
 use host::books::random::Random;
 use host::books::runs::{any_run, lawful_run, Heights};
@@ -119,6 +119,29 @@ fn forged_plans() {
     pair.tally.expect(&READ_AS, 2_000);
 }
 
+/// Plans at the limits of nodes, kinds and start, and beyond them.
+#[test]
+fn plans_beyond_limits() {
+    let mut pair = Pair::new();
+    for count in [0, 1, MOST_NODES, MOST_NODES + 1, 600] {
+        for kinds in [0, 1, MOST_KINDS, MOST_KINDS + 1] {
+            for start in [0, count.saturating_sub(1), count] {
+                let book = Book {
+                    kinds: kinds as u16,
+                    start: start as u16,
+                    nodes: vec![node(EMPTY, 0, 0); count],
+                };
+                let mut rows = vec![0; count * (kinds + 1)];
+                let last_cells = rows.iter_mut().skip(kinds).step_by(kinds + 1);
+                last_cells.for_each(|cell| *cell = 1);
+                pair.compare(&book.plan(&rows), &[], 1, 1, Edge::End);
+            }
+        }
+    }
+    pair.tally.expect(&[DONE], 8);
+    pair.tally.expect(&[PLAN_FORM], 40);
+}
+
 /// Plans of up to 512 nodes and 64 kinds.
 #[test]
 fn large_plans() {
@@ -187,24 +210,6 @@ fn walks_of_as_many_visits_as_nodes() {
     }
     let met = [DONE, DEEP, UNEXPECTED, END, RUNAWAY];
     pair.tally.expect(&met, 30);
-}
-
-/// A plan of refs, each to the next, up to a last node of this type and cell, which leads back.
-fn circle(count: u16, start: u16, last: u16, cell: u8) -> Vec<u8> {
-    let mut nodes: Vec<_> = (1..count).map(|to| (REF, to, 0)).collect();
-    nodes.push((last, 0, 0));
-    let book = Book {
-        start,
-        ..Book::ending(1, &nodes)
-    };
-    let mut plan = plan_of(&book);
-    let rows = plan.len() - 2 * usize::from(count);
-    for row in plan[rows..].chunks_exact_mut(2) {
-        row[0] = 2;
-    }
-    let at = plan.len() - 2;
-    plan[at] = cell;
-    plan
 }
 
 /// The rinse book with runs about the limit of events.

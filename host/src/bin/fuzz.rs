@@ -24,6 +24,10 @@ const SECONDS: u64 = 60;
 /// After this many seconds in one case its process is ended.
 const PATIENCE: u32 = 20;
 
+/// After a failure this many cases are looked at, for this time, for the smallest that fails.
+const LOOKED_AT: u64 = 2_000;
+const LOOKED_FOR: Duration = Duration::from_secs(10);
+
 /// What the arguments ask for.
 struct Options {
     seed: u64,
@@ -176,12 +180,17 @@ impl Progress {
 fn report(options: &Options, tested: &Tested, number: u64) {
     let seed = options.seed;
     println!("FAILED: case {number}; again: --seed {seed} --first {number} --cases 1");
-    let failed = case(seed, number, &options.names);
-    let smallest = smallest(failed, &mut |case| {
-        alone(case, tested, false) != Ended::Well
-    });
-    println!("the smallest case found that fails: {smallest}");
-    println!("wanted: {}", smallest.wanted());
+    let mut fails = |case: &Case| alone(case, tested, false) != Ended::Well;
+    let begun = Instant::now();
+    let failed = (number..number.saturating_add(LOOKED_AT))
+        .take_while(|_| begun.elapsed() < LOOKED_FOR)
+        .map(|at| case(seed, at, &options.names))
+        .filter(|case| fails(case))
+        .min_by_key(Case::size)
+        .unwrap_or_else(|| case(seed, number, &options.names));
+    let smallest = smallest(failed, &mut fails);
+    print!("the smallest case found that fails: {smallest}");
+    print!("wanted: {}", smallest.wanted());
     match alone(&smallest, tested, true) {
         Ended::Signal(signal) => println!("given: ended by signal {signal}"),
         Ended::Badly => (),
@@ -195,7 +204,7 @@ fn alone(case: &Case, tested: &Tested, show: bool) -> Ended {
         end_after(PATIENCE);
         let given = case.given(tested, &mut Lender::new());
         if show {
-            println!("given: {given}");
+            print!("given: {given}");
         }
         given == case.wanted()
     })

@@ -8,6 +8,12 @@ use super::runs::{any_run, Heights};
 use crate::book::LONGEST_BOOK;
 use crate::listing::MOST_EVENTS;
 
+/// The events of a run of the rinse book that fills the program's room for records.
+const FULL_TREE: usize = 2_049;
+
+/// The events of a run of the nesting book that needs about all slots.
+const FULL_SLOTS: usize = 1_022;
+
 /// The input with these bytes given as a book, their length before them, and these events.
 pub fn input(book: &[u8], run: &[u8]) -> Vec<u8> {
     let length = book.len() as u16;
@@ -43,7 +49,8 @@ fn book_and_run(random: &mut Random) -> Vec<u8> {
 
 /// A long or deep run, for which slots, room or events may not suffice.
 fn long_input(random: &mut Random) -> Vec<u8> {
-    let (book, run) = long_run(random, MOST_EVENTS);
+    let most = random.pick(&[MOST_EVENTS, FULL_TREE, FULL_SLOTS]);
+    let (book, run) = long_run(random, most);
     input(&book.bytes(), &run)
 }
 

@@ -17,12 +17,27 @@ pub fn good_book(random: &mut Random) -> Book {
     }
 }
 
+/// A book right but for its size or settings: too many nodes or none, kinds or a start out of range.
+pub fn beyond_limits(random: &mut Random) -> Book {
+    let few = random.within(1, 3);
+    let count = random.pick(&[few, few, 0, MOST_NODES, MOST_NODES + 1]);
+    let kinds = random.pick(&[1, 0, MOST_KINDS, MOST_KINDS + 1]);
+    let start = random.pick(&[0, count.saturating_sub(1), count]);
+    let form = random.pick(&[EMPTY, FAIL]);
+    Book {
+        kinds: kinds as u16,
+        start: start as u16,
+        nodes: vec![node(form, 0, 0); count],
+    }
+}
+
 /// Bytes given as a book.
 pub fn any_bytes(random: &mut Random) -> Vec<u8> {
     match random.below(10) {
         0..=3 => good_book(random).bytes(),
         4..=6 => damaged_book(random),
         7 => loose_nodes(random).bytes(),
+        8 if random.once_in(5) => beyond_limits(random).bytes(),
         8 => spliced(random),
         _ => formless(random),
     }

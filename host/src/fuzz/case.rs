@@ -68,6 +68,21 @@ impl Call {
 }
 
 impl Case {
+    /// How large the call's input and buffers are together.
+    pub fn size(&self) -> usize {
+        match &self.call {
+            Call::Form { book } => book.len(),
+            Call::Compile { book, room } => book.len() + room,
+            Call::Read {
+                plan,
+                run,
+                slots,
+                room,
+            } => plan.len() + run.len() + slots + room,
+            Call::Listing { input } => input.len(),
+        }
+    }
+
     /// What the call must answer and leave behind.
     pub fn wanted(&self) -> Answer {
         match &self.call {
@@ -172,8 +187,8 @@ impl Display for Answer {
                 write_records(f, "tree", tree)
             }
             Answer::Listing(Printed { output, status }) => {
-                writeln!(f, "exit status {status:?}, printed:")?;
-                writeln!(f, "{}", String::from_utf8_lossy(output))
+                let text = String::from_utf8_lossy(output);
+                writeln!(f, "exit status {status:?}, printed {text:?}")
             }
             Answer::Strayed => writeln!(f, "memory beside a buffer was written"),
         }

@@ -3,10 +3,10 @@
 use super::case::{Call, Case, Name};
 use crate::book::*;
 use crate::books::damaged::damaged;
-use crate::books::forged::{any_plan, restless_plan};
+use crate::books::forged::{any_circle, any_plan, restless_plan};
 use crate::books::inputs::any_input;
 use crate::books::limits::long_run;
-use crate::books::loose::{any_bytes, good_book};
+use crate::books::loose::{any_bytes, beyond_limits, good_book};
 use crate::books::random::Random;
 use crate::books::runs::{any_run, Heights};
 use crate::calls::{Lending, LONGEST_BYTES};
@@ -80,11 +80,13 @@ fn plan_size(book: &[u8]) -> usize {
 
 /// A call of the reader.
 fn any_read(random: &mut Random) -> Call {
-    let (plan, run) = if random.once_in(100) {
-        let (book, run) = long_run(random, MOST_EVENTS);
-        (plan_of(&book), run)
-    } else {
-        any_plan_and_run(random)
+    let (plan, run) = match random.below(100) {
+        0 => {
+            let (book, run) = long_run(random, MOST_EVENTS);
+            (plan_of(&book), run)
+        }
+        1..=4 => (any_circle(random), vec![0; random.below(3)]),
+        _ => any_plan_and_run(random),
     };
     let (slots, room) = any_buffers(random, &plan, &run);
     Call::Read {
@@ -102,6 +104,7 @@ fn any_plan_and_run(random: &mut Random) -> (Vec<u8>, Vec<u8>) {
         0..=2 => plan_of(&book),
         3..=6 => any_plan(random, &book),
         7 | 8 => restless_plan(random, &book),
+        _ if random.once_in(2) => plan_beyond_limits(random),
         _ => any_bytes(random),
     };
     if random.once_in(6) {
@@ -109,6 +112,12 @@ fn any_plan_and_run(random: &mut Random) -> (Vec<u8>, Vec<u8>) {
     }
     let run = any_run(random, &book, &Heights::of(&book));
     (plan, run)
+}
+
+/// A plan right but for its size or settings, of nodes that take no event.
+fn plan_beyond_limits(random: &mut Random) -> Vec<u8> {
+    let book = beyond_limits(random);
+    book.plan(&vec![0; book.nodes.len() * (usize::from(book.kinds) + 1)])
 }
 
 /// A number of slots, and room about the size of the tree.

@@ -1,27 +1,27 @@
 //! Smaller cases: while a smaller one fails too, it is taken instead.
 
 use super::case::{Call, Case};
-use crate::answers::DONE;
+use crate::answers::{CONTENTS, LENGTH};
 use crate::book::*;
 use crate::books::inputs::input;
 use crate::form::form;
 use crate::listing;
 use crate::program::Delivery;
 use crate::read::taken_apart;
+use std::time::{Duration, Instant};
 
-/// After this many tries the smallest case so far is the answer.
-const MOST_TRIES: usize = 20_000;
+/// After this time the smallest case so far is the answer.
+const MOST_TIME: Duration = Duration::from_secs(60);
 
 /// Some of what is smaller than a thing, the smallest first.
 type Smaller<T> = Box<dyn Iterator<Item = T>>;
 
 /// The smallest case found that fails, from one that does.
 pub fn smallest(mut case: Case, fails: &mut dyn FnMut(&Case) -> bool) -> Case {
-    let mut tries = 0;
+    let begun = Instant::now();
     loop {
         let found = smaller_cases(&case)
-            .take(MOST_TRIES - tries)
-            .inspect(|_| tries += 1)
+            .take_while(|_| begun.elapsed() < MOST_TIME)
             .find(|smaller| fails(smaller));
         match found {
             Some(smaller) => case = smaller,
@@ -96,7 +96,7 @@ fn smaller_reads(plan: Vec<u8>, run: Vec<u8>, slots: usize, room: usize) -> Smal
 /// Bytes smaller than these, which are given as a book: with a node less or plainer, or just fewer or smaller bytes.
 fn smaller_books(bytes: &[u8]) -> Smaller<Vec<u8>> {
     let mut books = Vec::new();
-    if form(bytes).number == DONE {
+    if !matches!(form(bytes).number, LENGTH | CONTENTS) {
         let book = Book::of(&bytes[BOOK_SETTINGS..]);
         let fewer = (0..book.nodes.len()).map(|gone| without(&book, gone));
         books.extend(fewer.chain(plainer(&book)).map(|book| book.bytes()));
@@ -209,8 +209,11 @@ fn smaller_numbers(number: usize) -> Smaller<usize> {
 #[cfg(test)]
 mod tests {
     use super::*;
+    use crate::answers::{DONE, PLAN_FORM};
     use crate::calls::Lending;
+    use crate::compile::plan_of;
     use crate::ffi::lent::Edge;
+    use crate::read::read;
     use crate::worked::{doubling, rinse};
 
     /// A case of this call.
@@ -255,7 +258,7 @@ mod tests {
     #[test]
     fn reading_shrinks() {
         let call = Call::Read {
-            plan: crate::compile::plan_of(&rinse()),
+            plan: plan_of(&rinse()),
             run: vec![0, 1, 1, 1, 2],
             slots: 500,
             room: 600,
@@ -270,7 +273,8 @@ mod tests {
             else {
                 return false;
             };
-            taken_apart(plan).is_some() && run.contains(&2) && *slots > 3 && *room > 6
+            let formed = read(plan, &[], &mut [], &mut []).number != PLAN_FORM;
+            formed && run.contains(&2) && *slots > 3 && *room > 6
         });
         let book = Book::ending(1, &[(FAIL, 0, 0)]);
         let smallest = Call::Read {
