@@ -1,7 +1,7 @@
 //! The calls made on lent memory, what each answers and leaves behind, and what it must.
 
 use crate::answers::{Compiled, Formed, Reading};
-use crate::ffi::lent::{Edge, Lent};
+use crate::ffi::lent::{Edge, Lent, Sealed};
 use crate::program::Printed;
 use crate::{compile, form, read};
 
@@ -84,8 +84,8 @@ pub fn wanted_read(plan: &[u8], run: &[u8], slots: usize, room: usize) -> Answer
 
 /// Memory for the calls: inputs that can only be read, and buffers, all between closed pages.
 pub struct Lender {
-    bytes: Lent<u8>,
-    run: Lent<u8>,
+    bytes: Sealed,
+    run: Sealed,
     plan: Lent<u8>,
     held: Lent<u16>,
     tree: Lent<u16>,
@@ -96,8 +96,8 @@ impl Lender {
     #[allow(clippy::new_without_default)]
     pub fn new() -> Lender {
         Lender {
-            bytes: Lent::new(LONGEST_BYTES),
-            run: Lent::new(LONGEST_RUN),
+            bytes: Sealed::new(LONGEST_BYTES),
+            run: Sealed::new(LONGEST_RUN),
             plan: Lent::new(LONGEST_BYTES),
             held: Lent::new(MOST_SLOTS),
             tree: Lent::new(MOST_ROOM),
@@ -106,13 +106,13 @@ impl Lender {
 
     /// What a form test answers to a book.
     pub fn form(&mut self, call: Form, book: &[u8], lending: Lending) -> Answer {
-        Answer::Form(call(self.bytes.seal(book, lending.edge)))
+        Answer::Form(call(self.bytes.put(book, lending.edge)))
     }
 
     /// What a compiler answers to a book, and leaves in a plan buffer of this length.
     pub fn compile(&mut self, call: Compile, book: &[u8], room: usize, lending: Lending) -> Answer {
         let Lending { edge, garbage } = lending;
-        let book = self.bytes.seal(book, edge);
+        let book = self.bytes.put(book, edge);
         let plan = self.plan.lend(garbage, room, edge);
         let compiled = call(book, plan);
         let answer = Answer::Compile(compiled, plan.to_vec());
@@ -129,8 +129,8 @@ impl Lender {
     ) -> Answer {
         let edge = lending.edge;
         let garbage = u16::from_le_bytes([lending.garbage; 2]);
-        let plan = self.bytes.seal(plan, edge);
-        let run = self.run.seal(run, edge);
+        let plan = self.bytes.put(plan, edge);
+        let run = self.run.put(run, edge);
         let held = self.held.lend(garbage, slots, edge);
         let tree = self.tree.lend(garbage, room, edge);
         let reading = call(plan, run, held, tree);

@@ -123,7 +123,7 @@ fn forged_plans() {
 #[test]
 fn plans_beyond_limits() {
     let mut pair = Pair::new();
-    for count in [0, 1, MOST_NODES, MOST_NODES + 1, 600] {
+    for count in [0, 1, MOST_NODES, MOST_NODES + 1] {
         for kinds in [0, 1, MOST_KINDS, MOST_KINDS + 1] {
             for start in [0, count.saturating_sub(1), count] {
                 let book = Book {
@@ -139,7 +139,7 @@ fn plans_beyond_limits() {
         }
     }
     pair.tally.expect(&[DONE], 8);
-    pair.tally.expect(&[PLAN_FORM], 40);
+    pair.tally.expect(&[PLAN_FORM], 30);
 }
 
 /// Plans of up to 512 nodes and 64 kinds.

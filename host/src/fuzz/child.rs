@@ -1,13 +1,9 @@
 //! Work done in a child process, so that a crash or a call that never ends is seen by its parent.
 
+use crate::ffi::lent::map;
 use std::panic::{catch_unwind, AssertUnwindSafe};
-use std::ptr::null_mut;
 use std::slice;
 use std::sync::atomic::AtomicU64;
-
-use crate::ffi::lent::{mmap, MAP_ANONYMOUS, PROT_READ, PROT_WRITE};
-
-const MAP_SHARED: i32 = 1;
 
 extern "C" {
     fn alarm(seconds: u32) -> u32;
@@ -61,12 +57,7 @@ pub fn end_after(seconds: u32) {
 
 /// Numbers, all 0 at first, that this process shares with its children.
 pub fn shared_numbers(count: usize) -> &'static [AtomicU64] {
-    let bytes = count * size_of::<AtomicU64>();
-    let flags = MAP_SHARED | MAP_ANONYMOUS;
-    // SAFETY: a new mapping of zeros, never given back; the numbers are only used as atomic ones.
-    unsafe {
-        let at = mmap(null_mut(), bytes, PROT_READ | PROT_WRITE, flags, -1, 0);
-        assert!(at as isize != -1, "no memory to share");
-        slice::from_raw_parts(at.cast(), count)
-    }
+    let at = map(count * size_of::<AtomicU64>());
+    // SAFETY: new memory of zeros, never given back; the numbers are only used as atomic ones.
+    unsafe { slice::from_raw_parts(at.cast(), count) }
 }
