@@ -4,12 +4,15 @@ CFLAGS ?= -O2
 WARNINGS = -std=c11 -Wall -Wextra -Werror
 ARCHIVE = target/staticlib/libdrumbook.a
 EXAMPLES = target/examples
+PREFIX ?= /usr/local
+VERSION = 0.1.0
 
-.PHONY: run test archive clean
+.PHONY: run test archive listing bench install clean
 .SECONDARY:
 
-run: archive
-	@$(MAKE) --no-print-directory run-form
+# the listing program on the rinse book and the run 0 1 2
+run: listing
+	@target/bin/listing < crates/listing/stdin
 
 test:
 	@scripts/gate
@@ -19,6 +22,11 @@ archive:
 	@mkdir -p target
 	@rt staticlib drumbook > target/archive.log 2>&1 || { cat target/archive.log; exit 1; }
 
+# proves the listing program and builds it
+listing:
+	@mkdir -p target
+	@rt check listing > target/listing.log 2>&1 || { cat target/listing.log; exit 1; }
+
 # builds one C example against the header and the archive, runs it, and compares what it prints
 run-%: $(EXAMPLES)/%
 	@$< | tee $<.out
@@ -27,6 +35,18 @@ run-%: $(EXAMPLES)/%
 $(EXAMPLES)/%: host/%.c host/rinse.h host/words.h include/drumbook.h $(ARCHIVE)
 	@mkdir -p $(EXAMPLES)
 	@$(CC) $(CFLAGS) $(WARNINGS) -Iinclude $< $(ARCHIVE) -o $@
+
+# measures the archive against the plain C compiler and reader of bench/, and writes docs/BENCHMARKS.md
+bench: archive
+	@CC=$(CC) scripts/bench
+
+# the header, the archive and a pkg-config file, below PREFIX
+install: archive
+	install -d $(DESTDIR)$(PREFIX)/include $(DESTDIR)$(PREFIX)/lib/pkgconfig
+	install -m 644 include/drumbook.h $(DESTDIR)$(PREFIX)/include/
+	install -m 644 $(ARCHIVE) $(DESTDIR)$(PREFIX)/lib/
+	printf 'prefix=%s\n\nName: drumbook\nDescription: Proved compiler of grammar books and reader of runs\nVersion: %s\nCflags: -I$${prefix}/include\nLibs: -L$${prefix}/lib -ldrumbook\n' \
+		'$(PREFIX)' '$(VERSION)' > $(DESTDIR)$(PREFIX)/lib/pkgconfig/drumbook.pc
 
 clean:
 	rm -rf target

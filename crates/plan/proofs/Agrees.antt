@@ -106,7 +106,7 @@ module _ {p q : Plan} (agree : Agree p q) where
         walk-same (p .count) n held small below ∙ ap (λ (c : ℕ). walk q k c n held) (agree .count) in
         λ i. takeOff (agree .cell n k small kind i) (agree .null n small i) (walked i) (noted (emptied n) (event-same below i))
 
-    event-kept : {held : List ℕ} → Below (p .count) held → Kept (p .count) (event p k held)
+    pub event-kept : {held : List ℕ} → Below (p .count) held → Kept (p .count) (event p k held)
     unfolding event
     event-kept none-held = kept-refused
     event-kept (one-held {n} {held} small below) =

@@ -7,7 +7,6 @@ use native.Mathlib.Nat.{le-refl, le-antisymm}
 use borrow.Author.Tests.{lt-ltb, le-ltb}
 use lib.Dec.{leb, eqb}
 use lib.ListN.{getD}
-use Rattle.book.proofs.FirstBad.{Searched}
 use Rattle.plan.specs.Form.{columnGood}
 
 module _ (bytes : List ℕ) (row-at kinds one other : ℕ) {cell : ℕ} {test : Bool} where
@@ -21,7 +20,6 @@ module _ (bytes : List ℕ) (row-at kinds one other : ℕ) {cell : ℕ} {test : 
   unfolding columnGood
   last-column is tested = rw (le-ltb kinds kinds (le-refl _), ← is) tested
 
--- a search of the columns that has come past the kinds stands at the last cell
-pub at-last : (good : ℕ → Bool) (kinds column : ℕ) → Searched good (kinds + 1) column → column ≤ kinds → kinds ≤ column
-    → Searched good (kinds + 1) kinds
-at-last good kinds column s most least = subst (λ (j : ℕ). Searched good (kinds + 1) j) (le-antisymm most least) s
+-- what holds of the column that a loop over the kinds is left at holds of the last
+pub at-last : (P : ℕ → Type 0) {kinds column : ℕ} → P column → column ≤ kinds → kinds ≤ column → P kinds
+at-last P here most least = subst P (le-antisymm most least) here

@@ -1,6 +1,14 @@
 pub mod Agrees
+pub mod Children
 mod Columns
+mod Joined
+pub mod Expected
 pub mod Laws
 mod Listed
 pub mod PlanBytes
+pub mod PlanDone
+mod Row
 mod Rows
+mod Stored
+pub mod TableMarks
+pub mod Writing

@@ -23,6 +23,10 @@ use Rattle.plan.proofs.Listed.{getD-second, length-values, getD-values,
 word-is : (n : ℕ) → n < 65536 → n % 256 + 256 * (n / 256 % 256) ≡ n
 word-is n small = omega arith
 
+pub length-contents : (count kinds : ℕ) → length (planContents count kinds) ≡ 20
+unfolding planContents wordBytes
+length-contents count kinds = refl
+
 module _ (marks : Marks) (book : Book) where
   -- the cells for kinds in a node's row
   abbrev cells : ℕ → List ℕ
@@ -59,21 +63,17 @@ module _ (bytes : List ℕ) (marks : Marks) (formed : Formed bytes) where
   abbrev plan : List ℕ
   plan = planBytes bytes marks
 
-  length-contents : length (planContents count kinds) ≡ 20
-  unfolding planContents wordBytes
-  length-contents = refl
-
   pub size-is : length plan ≡ planSize count kinds
   unfolding planBytes bookOf
   size-is =
       length-append (planContents count kinds) _
-      ∙ omega (arith, length-contents, length-append (drop 14 bytes) (rowsOf marks (bookOf bytes)), length-drop 14 bytes, length-rows marks (bookOf bytes), formed .size .is)
+      ∙ omega (arith, length-contents count kinds, length-append (drop 14 bytes) (rowsOf marks (bookOf bytes)), length-drop 14 bytes, length-rows marks (bookOf bytes), formed .size .is)
 
   -- settings and nodes are those of the book
   pub byte-copied : (i : ℕ) → i < 4 + 6 * count → getD plan (20 + i) 0 ≡ getD bytes (14 + i) 0
   unfolding planBytes bookOf
   byte-copied i within =
-      getD-second (planContents count kinds) _ (20 + i) i (omega (arith, length-contents))
+      getD-second (planContents count kinds) _ (20 + i) i (omega (arith, length-contents count kinds))
       ∙ List·getD-append (drop 14 bytes) _ 0 i (omega (arith, length-drop 14 bytes, formed .size .is))
       ∙ getD-drop 14 bytes i 0
 
@@ -82,7 +82,7 @@ module _ (bytes : List ℕ) (marks : Marks) (formed : Formed bytes) where
       → getD plan (rowAt count kinds n + column) 0 ≡ getD (rowOf marks (bookOf bytes) n) column 0
   unfolding planBytes bookOf rowsOf
   row-stands n column below within =
-      getD-second (planContents count kinds) _ _ (4 + 6 * count + (n * (kinds + 1) + column)) (omega (arith, length-contents))
+      getD-second (planContents count kinds) _ _ (4 + 6 * count + (n * (kinds + 1) + column)) (omega (arith, length-contents count kinds))
       ∙ getD-second (drop 14 bytes) _ _ (n * (kinds + 1) + column) (omega (arith, length-drop 14 bytes, formed .size .is))
       ∙ getD-lists (rowOf marks (bookOf bytes)) (kinds + 1) (length-row marks (bookOf bytes)) count 0 n column below within
       ∙ ap (λ (m : ℕ). getD (rowOf marks (bookOf bytes) m) column 0) (zero-add n)

@@ -1,23 +1,22 @@
 -- Where a table is closed under the rules at every node, it has every fact that they give; where it is sound too, it has those alone.
-use Prim.Native.Nat.{ℕ, zero, suc, _+_, _*_, _/_, _%_, _≤_, _<_}
-use mathlib.Core.Path.{_≡_, refl, sym, ap, _∙_, subst}
+use Prim.Native.Nat.{ℕ, _+_, _*_, _<_}
+use mathlib.Core.Path.{_≡_, refl}
 use mathlib.Core.Bool.{Bool, false}
 use mathlib.Core.List.{List}
-use mathlib.Core.Logic.{_↔_, _⊎_, inl, inr}
+use mathlib.Core.Logic.{inl, inr}
 use native.Mathlib.Nat.{add-zero}
 use native.Mathlib.Omega.{arith}
 use lib.ListN.{getD}
-use Rattle.kinds.specs.Kinds.{Has, everyKind, onlyKind, joined, inBoth}
+use Rattle.kinds.specs.Kinds.{Has, joined, inBoth}
 use Rattle.kinds.proofs.Laws.{all, has-single, has-join, has-shared}
 use Rattle.book.specs.Book.{Proper}
 use Rattle.book.specs.declared.Node.{Node}
-use Rattle.book.specs.declared.Node.the-variants.{Fail, Empty, Token, Either, Then, Tagged, Ref}
 use Rattle.rules.specs.Rules.{Productive, Nullable, First, Snf, p-empty, p-token, p-left, p-right, p-then, p-tagged, p-ref, n-empty, n-left, n-right, n-then, n-tagged, n-ref, f-token, f-left, f-right, f-hold, f-skip, f-tagged, f-ref, s-left, s-right, s-first-left, s-first-right, s-then-left, s-then-right, s-tagged, s-ref}
 use Rattle.rules.specs.Facts.{Facts}
 use Rattle.rules.specs.Growth.{Sound, Turned}
-use Rattle.rules.specs.Step.{leftFrom, rightFrom, kindOf, factsAt, ruledOf, factOf, FactAt, Holds, RuleClosed}
+use Rattle.rules.specs.Step.{leftFrom, rightFrom, factsAt, ruledOf, FactAt, Holds, RuleClosed}
 use Rattle.rules.proofs.Reading.{left-below, right-below}
-use Rattle.rules.proofs.Steps.{SoundFacts, table-sound}
+use Rattle.rules.proofs.Steps.{table-sound}
 
 module _ {node : ℕ → Node} {kinds count : ℕ} (proper : (n : ℕ) → n < count → Proper kinds count n (node n)) {table : List ℕ}
     (closed : (n : ℕ) → n < count → RuleClosed node table n) where

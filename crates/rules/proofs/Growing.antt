@@ -1,14 +1,13 @@
 -- Laws of a list of sets that only grows: one set joined with more, one growth after another, the steps of a turn, the sum's bound.
 use Prim.Native.Nat.{ℕ, zero, suc, _+_, _*_, _-_, _^_, _≤_, _<_}
 use mathlib.Core.Path.{_≡_, refl, sym, ap, _∙_, subst, subst₂}
-use mathlib.Core.Bool.{Bool, true, false, not, cond, _||_, true≢false, false≢true}
+use mathlib.Core.Bool.{Bool, true, false, cond, _||_, true≢false, false≢true}
 use mathlib.Core.List.{List, [], _∷_}
 use mathlib.Core.Logic.{_⊎_, inl, inr, ⊎-elim, _≢_}
 use native.Mathlib.Decide.{ℕ-discrete, decLt}
 use native.Mathlib.Omega.{arith}
 use borrow.Author.Tests.{eqb-true, eqb-false, not-true, not-false, lt-ltb, le-ltb}
-use lib.Dec.{eqb, ltb}
-use lib.ListN.{length, getD, set, length-set}
+use lib.ListN.{length, getD, set, length-set, replicate, length-replicate}
 use lib.Seq.{getD-set-same, getD-set-other, set-getD}
 use lib.Bits.{or-add-and, and-le-r}
 use Rattle.kinds.specs.Kinds.{Has, joined}
@@ -47,6 +46,19 @@ grown-sound grown sound = record { by = λ i k has. ⊎-elim (sound .by i k) (λ
 
 pub blank-sound : {By : ℕ → ℕ → Type 0} {least : ℕ} {sets : List ℕ} → Blank least sets → Sound By sets
 blank-sound blank = record { by = λ i k has. absurd (none (subst (λ (mask : ℕ). Has mask k) (blank .zeros i) has)) }
+
+-- zeros are blank
+pub blank-zeros : (n : ℕ) → Blank n (replicate n 0)
+blank-zeros n = record { long = omega (arith, length-replicate {A = ℕ} n 0); zeros = zeros n }
+  where
+    zeros : (n i : ℕ) → getD {A = ℕ} (replicate n 0) i 0 ≡ 0
+    zeros zero i = refl
+    zeros (suc n) zero = refl
+    zeros (suc n) (suc i) = zeros n i
+
+-- blank sets are blank to a lower length
+pub blank-less : {less least : ℕ} {sets : List ℕ} → less ≤ least → Blank least sets → Blank less sets
+blank-less {less} {least} l blank = record { long = omega (arith, blank .long); zeros = blank .zeros }
 
 pub grown-none : {By : ℕ → ℕ → Type 0} (sets : List ℕ) → Grown By sets sets false
 grown-none sets = record {
@@ -128,6 +140,10 @@ module _ {before after : List ℕ} {i more : ℕ} {changed : Bool} (inside : i <
           (has-join (getD before i 0) more k .0 (rw (e, here) at has))
       adds m k (no f) has = inl (rw (other m f) at has)
 
+  -- the set has what was joined
+  pub joined-has : (k : ℕ) → Has more k → Has (getD after i 0) k
+  joined-has k has = rw here (has-join (getD before i 0) more k .1 (inr has))
+
   -- where nothing changed, the set had all that was joined
   pub joined-held : changed ≡ false → (k : ℕ) → Has more k → Has (getD before i 0) k
   joined-held e k has = rw (same e) at (has-join (getD before i 0) more k .1 (inr has))
@@ -144,18 +160,16 @@ visited-inside count i below = go (decLt i count)
 
 -- the first steps of a turn have been made
 pub record Turning (By : ℕ → ℕ → Type 0) (Closed : List ℕ → ℕ → Type 0) (count : ℕ) (before after : List ℕ) (i : ℕ) (changed : Bool) : Type 0 where
-  pub bound : i ≤ 2 * count
   pub grown : Grown By before after changed
   pub closed : changed ≡ false → (n : ℕ) → n < count → n < i → Closed before n
 
 module _ {By : ℕ → ℕ → Type 0} {Closed : List ℕ → ℕ → Type 0} {count : ℕ} where
   pub turning-none : (sets : List ℕ) → Turning By Closed count sets sets 0 false
-  turning-none sets = record { bound = omega arith; grown = grown-none sets; closed = λ e n below l. absurd (omega arith) }
+  turning-none sets = record { grown = grown-none sets; closed = λ e n below l. absurd (omega arith) }
 
   pub turning-more : {before between after : List ℕ} {i n : ℕ} {c d : Bool} → Turning By Closed count before between i c → i < 2 * count
       → n ≡ visitedAt count i → Visited By Closed n between after d → Turning By Closed count before after (i + 1) (c || d)
   turning-more {before} {between} {after} {i} {n} {c} {d} turning below at visited = record {
-    bound = omega arith;
     grown = grown-then (turning .grown) (visited .grown);
     closed = λ e m inside l. closed m inside (or-false c d e) (ℕ-discrete m i) l;
   }

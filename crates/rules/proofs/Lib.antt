@@ -2,3 +2,6 @@ pub mod Growing
 pub mod Reading
 pub mod Steps
 pub mod Complete
+pub mod Spreading
+pub mod Laws
+pub mod Reports

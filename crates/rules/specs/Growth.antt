@@ -1,5 +1,5 @@
 -- A list of sets that only grows.
-use Prim.Native.Nat.{ℕ, zero, suc, _+_, _*_, _-_, _≤_, _<_}
+use Prim.Native.Nat.{ℕ, _+_, _*_, _-_, _≤_, _<_}
 use mathlib.Core.Path.{_≡_}
 use mathlib.Core.Bool.{Bool, true, false, not, cond}
 use mathlib.Core.List.{List, [], _∷_}
@@ -8,7 +8,7 @@ use lib.Dec.{ltb, eqb}
 use lib.ListN.{length, getD, set}
 use Rattle.kinds.specs.Kinds.{Has, joined}
 
--- all that a list of sets has is by a rule: of which list, and which kind
+-- all that a list of sets has is by a rule: at which place, and which kind
 pub record Sound (By : ℕ → ℕ → Type 0) (sets : List ℕ) : Type 0 where
   pub by : (i k : ℕ) → Has (getD sets i 0) k → By i k
 

@@ -1,14 +1,18 @@
 -- The rules as a step: what a table's facts of its left and right give a node, and what a mark gives its children.
 use Prim.Native.Nat.{ℕ, zero, suc, _+_, _*_, _/_, _%_, _<_}
 use mathlib.Core.Path.{_≡_}
+use mathlib.Core.Logic.{_≢_}
 use mathlib.Core.Bool.{Bool, cond}
 use mathlib.Core.List.{List}
+use lib.Dec.{eqb}
 use lib.ListN.{getD}
-use Rattle.kinds.specs.Kinds.{Has, everyKind, onlyKind, joined, inBoth}
+use Rattle.kinds.specs.Kinds.{Has, everyKind, onlyKind, joined, inBoth, lowestKind}
 use Rattle.book.specs.declared.Node.{Node}
 use Rattle.book.specs.declared.Node.the-variants.{Fail, Empty, Token, Either, Then, Tagged, Ref}
 use Rattle.rules.specs.Rules.{Productive, Nullable, First, Snf, Child, Reach}
+use Rattle.rules.specs.Conflicts.{NO-CONFLICT, BOTH-NULLABLE}
 use Rattle.rules.specs.Facts.{Marked}
+use Rattle.rules.specs.Growth.{Sound, Visited, Turned}
 use Rattle.rules.specs.declared.NodeFacts.{NodeFacts}
 
 -- the left of a node, its own number where it has none
@@ -50,23 +54,31 @@ factsAt table n = record {
   snf = getD table (4 * n + 3) 0;
 }
 
--- what the rules give a node by the facts of its left and right
-unfoldable pub ruledOf : Node → NodeFacts → NodeFacts → NodeFacts
-ruledOf Fail left right = record { productive = 0; nullable = 0; first = 0; snf = 0 }
-ruledOf Empty left right = record { productive = everyKind; nullable = everyKind; first = 0; snf = 0 }
-ruledOf (Token k) left right = record { productive = everyKind; nullable = 0; first = onlyKind k; snf = 0 }
-ruledOf (Either l r) left right = record {
+-- what the rules give an either by the facts of its left and right
+abbrev pub eitherFacts : NodeFacts → NodeFacts → NodeFacts
+eitherFacts left right = record {
   productive = joined (left .productive) (right .productive);
   nullable = joined (left .nullable) (right .nullable);
   first = joined (left .first) (right .first);
   snf = joined (joined (joined (left .snf) (right .snf)) (inBoth (left .first) (right .nullable))) (inBoth (left .nullable) (right .first));
 }
-ruledOf (Then l r) left right = record {
+
+-- what the rules give a then by the facts of its left and right
+abbrev pub thenFacts : NodeFacts → NodeFacts → NodeFacts
+thenFacts left right = record {
   productive = inBoth (left .productive) (right .productive);
   nullable = inBoth (left .nullable) (right .nullable);
   first = joined (inBoth (left .first) (right .productive)) (inBoth (left .nullable) (right .first));
   snf = joined (inBoth (left .snf) (right .nullable)) (inBoth (left .productive) (right .snf));
 }
+
+-- what the rules give a node by the facts of its left and right
+unfoldable pub ruledOf : Node → NodeFacts → NodeFacts → NodeFacts
+ruledOf Fail left right = record { productive = 0; nullable = 0; first = 0; snf = 0 }
+ruledOf Empty left right = record { productive = everyKind; nullable = everyKind; first = 0; snf = 0 }
+ruledOf (Token k) left right = record { productive = everyKind; nullable = 0; first = onlyKind k; snf = 0 }
+ruledOf (Either l r) left right = eitherFacts left right
+ruledOf (Then l r) left right = thenFacts left right
 ruledOf (Tagged l t) left right = left
 ruledOf (Ref l) left right = left
 
@@ -101,6 +113,22 @@ abbrev pub RuleClosed : (ℕ → Node) → List ℕ → ℕ → Type 0
 RuleClosed node table n =
     Holds (ruledOf (node n) (factsAt table (leftFrom n (node n))) (factsAt table (rightFrom n (node n)))) table n
 
+-- what is answered at an either: that both sides are nullable, before the lowest kind shared
+pub record EitherReport (both shared answer : ℕ) : Type 0 where
+  pub nullable : both ≢ 0 → answer ≡ BOTH-NULLABLE
+  pub first : both ≡ 0 → answer ≡ lowestKind shared
+
+-- what is reported at a node by the facts of its left and right
+unfoldable pub reportedOf : Node → NodeFacts → NodeFacts → ℕ
+reportedOf Fail left right = NO-CONFLICT
+reportedOf Empty left right = NO-CONFLICT
+reportedOf (Token k) left right = NO-CONFLICT
+reportedOf (Either l r) left right =
+    cond (eqb (inBoth (left .nullable) (right .nullable)) 0) (lowestKind (inBoth (left .first) (right .first))) BOTH-NULLABLE
+reportedOf (Then l r) left right = lowestKind (inBoth (left .snf) (right .first))
+reportedOf (Tagged l t) left right = NO-CONFLICT
+reportedOf (Ref l) left right = NO-CONFLICT
+
 -- a mark at a place stands for a reachable node
 pub record ReachAt (node : ℕ → Node) (start i k : ℕ) : Type 0 where
   pub reach : Reach node start (64 * i + k)
@@ -109,6 +137,14 @@ pub record ReachAt (node : ℕ → Node) (start i k : ℕ) : Type 0 where
 pub record ChildClosed (node : ℕ → Node) (marks : List ℕ) (n : ℕ) : Type 0 where
   pub children : (m : ℕ) → Child (node n) m → Marked marks n → Marked marks m
 
--- the set of one kind or of none
+-- a node's children have been marked if it is: from any start, all by reaching
+pub record Spread (node : ℕ → Node) (n : ℕ) (before after : List ℕ) (changed : Bool) : Type 0 where
+  pub from : (start : ℕ) → Sound (ReachAt node start) before → Visited (ReachAt node start) (ChildClosed node) n before after changed
+
+-- the children of all marked nodes have been marked: from any start, all by reaching
+pub record SpreadAll (node : ℕ → Node) (count : ℕ) (before after : List ℕ) (changed : Bool) : Type 0 where
+  pub from : (start : ℕ) → Sound (ReachAt node start) before → Turned (ReachAt node start) (ChildClosed node) count before after changed
+
+-- the set of one place or of none
 abbrev pub markOf : Bool → ℕ → ℕ
 markOf marked k = cond marked (onlyKind k) 0

@@ -2,12 +2,19 @@
 ghost use mathlib.Core.Path.{_≡_};
 ghost use Prim.Native.Nat.{ℕ, _+_, _*_, _/_, _%_, _≤_, _<_};
 ghost use lib.ListN.{length, getD};
+ghost use Rattle.kinds.specs.Kinds.{has?};
 ghost use Rattle.book.specs.Decode.{nodes, GoodNodes};
 ghost use Rattle.rules.specs.Facts.{Facts, Reached, Marked};
-ghost use Rattle.rules.specs.Conflicts.{ConflictAt, LowestConflict};
+ghost use Rattle.rules.specs.Conflicts.{ConflictAt, Conflicting, LowestConflict};
 ghost use Rattle.rules.specs.Growth.{Sound, Blank, Joined, Grown, Visited, Turned, visitedAt};
-ghost use Rattle.rules.specs.Step.{leftFrom, rightFrom, kindOf, factsAt, ruledOf, FactAt, Given, Holds, RuleClosed, ReachAt, ChildClosed, markOf};
+ghost use Rattle.rules.specs.Step.{leftFrom, rightFrom, kindOf, factsAt, eitherFacts, thenFacts, ruledOf, EitherReport, reportedOf, FactAt, Given, Holds, RuleClosed, Spread, SpreadAll, markOf};
 use book::Node;
+
+// What is answered for a node without a conflict.
+pub const NO_CONFLICT: usize = 64;
+
+// What is answered where both sides of an either are nullable.
+pub const BOTH_NULLABLE: usize = 255;
 
 // The facts of a node: productive and nullable as no kind or all kinds, FIRST and SNF as sets of kinds.
 pub struct NodeFacts {
@@ -61,6 +68,30 @@ pub fn facts_at(table: &[u64], n: usize) -> NodeFacts
     }
 }
 
+// What the rules give an either by the facts of its left and right.
+fn either_facts(left: NodeFacts, right: NodeFacts) -> NodeFacts
+    ensures { λ r. ⌜ r ≡ eitherFacts left right ⌝ }
+{
+    NodeFacts {
+        productive: left.productive | right.productive,
+        nullable: left.nullable | right.nullable,
+        first: left.first | right.first,
+        snf: left.snf | right.snf | left.first & right.nullable | left.nullable & right.first,
+    }
+}
+
+// What the rules give a then by the facts of its left and right.
+fn then_facts(left: NodeFacts, right: NodeFacts) -> NodeFacts
+    ensures { λ r. ⌜ r ≡ thenFacts left right ⌝ }
+{
+    NodeFacts {
+        productive: left.productive & right.productive,
+        nullable: left.nullable & right.nullable,
+        first: left.first & right.productive | left.nullable & right.first,
+        snf: left.snf & right.nullable | left.productive & right.snf,
+    }
+}
+
 // What the rules give a node by the facts of its left and right.
 fn ruled(node: Node, left: NodeFacts, right: NodeFacts) -> NodeFacts
     requires { ⌜ kindOf node < 64 ⌝ }
@@ -85,18 +116,8 @@ fn ruled(node: Node, left: NodeFacts, right: NodeFacts) -> NodeFacts
             first: kinds::single(k),
             snf: 0,
         },
-        Node::Either(_, _) => NodeFacts {
-            productive: left.productive | right.productive,
-            nullable: left.nullable | right.nullable,
-            first: left.first | right.first,
-            snf: left.snf | right.snf | left.first & right.nullable | left.nullable & right.first,
-        },
-        Node::Then(_, _) => NodeFacts {
-            productive: left.productive & right.productive,
-            nullable: left.nullable & right.nullable,
-            first: left.first & right.productive | left.nullable & right.first,
-            snf: left.snf & right.nullable | left.productive & right.snf,
-        },
+        Node::Either(_, _) => either_facts(left, right),
+        Node::Then(_, _) => then_facts(left, right),
         Node::Tagged(_, _) => left,
         Node::Ref(_) => left,
     }
@@ -171,4 +192,154 @@ pub fn least_facts(book: &[u8], base: usize, count: usize, table: &mut [u64])
     ensures { λ _. ⌜ Facts (nodes (now (book .entry)) base count) count (now (table .exit)) ⌝ }
 {
     while turn(book, base, count, table) {}
+}
+
+// Whether a node is marked, 64 nodes to a set.
+fn is_marked(marks: &[u64], n: usize) -> bool
+    requires { ⌜ n / 64 < length (now marks) ⌝ }
+    ensures { λ r. ⌜ r ≡ has? (getD (now (marks .entry)) (n / 64) 0) (n % 64) ⌝ }
+{
+    kinds::has(marks[n / 64], n % 64)
+}
+
+// The set of one place, or the empty set.
+fn mark_of(marked: bool, place: usize) -> u64
+    requires { ⌜ place < 64 ⌝ }
+    ensures { λ r. ⌜ r ≡ markOf marked place ⌝ }
+{
+    if marked { kinds::single(place) } else { 0 }
+}
+
+// Marks a node if told to. Whether the mark is new.
+fn mark(marks: &mut [u64], n: usize, marked: bool) -> bool
+    requires { ⌜ n / 64 < length (now marks) ⌝ }
+    ensures { λ r. ⌜ Joined (now (marks .entry)) (now (marks .exit)) (n / 64) (markOf marked (n % 64)) r ⌝ }
+{
+    grow(marks, n / 64, mark_of(marked, n % 64))
+}
+
+// Marks the children of a node if it is marked. Whether any mark is new.
+fn spread(book: &[u8], base: usize, count: usize, n: usize, marks: &mut [u64]) -> bool
+    requires { ⌜ GoodNodes (now book) base count 64 ⌝ }
+    requires { ⌜ n < count ⌝ }
+    requires { ⌜ 8 ≤ length (now marks) ⌝ }
+    ensures { λ r. ⌜ Spread (nodes (now (book .entry)) base count) n (now (marks .entry)) (now (marks .exit)) r ⌝ }
+{
+    let node = book::node_at(book, base, n);
+    let marked = is_marked(marks, n);
+    let left = mark(marks, left_from(n, node), marked);
+    let right = mark(marks, right_from(n, node), marked);
+    left | right
+}
+
+// Marks the children of every marked node, upward and then downward. Whether any mark is new.
+fn spread_all(book: &[u8], base: usize, count: usize, marks: &mut [u64]) -> bool
+    requires { ⌜ GoodNodes (now book) base count 64 ⌝ }
+    requires { ⌜ 8 ≤ length (now marks) ⌝ }
+    ensures { λ r. ⌜ SpreadAll (nodes (now (book .entry)) base count) count (now (marks .entry)) (now (marks .exit)) r ⌝ }
+{
+    let mut changed = false;
+    let mut i = 0;
+    while i < 2 * count {
+        changed = changed | spread(book, base, count, visited(count, i), marks);
+        i += 1;
+    }
+    changed
+}
+
+// Marks the reachable nodes, in marks that are blank: turns until one changes nothing.
+pub fn reach(book: &[u8], base: usize, count: usize, start: usize, marks: &mut [u64])
+    requires { ⌜ GoodNodes (now book) base count 64 ⌝ }
+    requires { ⌜ start < count ⌝ }
+    requires { ⌜ Blank 8 (now marks) ⌝ }
+    ensures { λ _. ⌜ Reached (nodes (now (book .entry)) base count) start count (now (marks .exit)) ⌝ }
+{
+    mark(marks, start, true);
+    while spread_all(book, base, count, marks) {}
+}
+
+// What is reported at an either, where both sides are nullable before the lowest kind shared.
+fn either_report(both: u64, shared: u64) -> usize
+    ensures { λ r. ⌜ EitherReport both shared r ⌝ }
+{
+    if both == 0 {
+        kinds::lowest(shared)
+    } else {
+        BOTH_NULLABLE
+    }
+}
+
+// What is reported at a node by the facts of its left and right.
+fn reported(node: Node, left: NodeFacts, right: NodeFacts) -> usize
+    ensures { λ r. ⌜ r ≡ reportedOf node left right ⌝ }
+{
+    match node {
+        Node::Fail => NO_CONFLICT,
+        Node::Empty => NO_CONFLICT,
+        Node::Token(_) => NO_CONFLICT,
+        Node::Either(_, _) => {
+            either_report(left.nullable & right.nullable, left.first & right.first)
+        }
+        Node::Then(_, _) => kinds::lowest(left.snf & right.first),
+        Node::Tagged(_, _) => NO_CONFLICT,
+        Node::Ref(_) => NO_CONFLICT,
+    }
+}
+
+// The kind reported at a node, or that it has no conflict.
+pub fn conflict_at(book: &[u8], base: usize, count: usize, n: usize, table: &[u64]) -> usize
+    requires { ⌜ GoodNodes (now book) base count 64 ⌝ }
+    requires { ⌜ n < count ⌝ }
+    requires { ⌜ 4 * count ≤ length (now table) ⌝ }
+    requires { ⌜ Facts (nodes (now book) base count) count (now table) ⌝ }
+    ensures { λ r. ⌜ ConflictAt (nodes (now (book .entry)) base count) (nodes (now (book .entry)) base count n) r ⌝ }
+{
+    let node = book::node_at(book, base, n);
+    let left = facts_at(table, left_from(n, node));
+    let right = facts_at(table, right_from(n, node));
+    reported(node, left, right)
+}
+
+// Whether a node is marked and has a conflict.
+fn conflicting(
+    book: &[u8],
+    base: usize,
+    count: usize,
+    n: usize,
+    table: &[u64],
+    marks: &[u64],
+) -> bool
+    requires { ⌜ GoodNodes (now book) base count 64 ⌝ }
+    requires { ⌜ n < count ⌝ }
+    requires { ⌜ 4 * count ≤ length (now table) ⌝ }
+    requires { ⌜ Facts (nodes (now book) base count) count (now table) ⌝ }
+    requires { ⌜ 8 ≤ length (now marks) ⌝ }
+    ensures { λ r. ⌜ Conflicting (nodes (now (book .entry)) base count) (Marked (now (marks .entry))) n r ⌝ }
+{
+    let kind = conflict_at(book, base, count, n, table);
+    is_marked(marks, n) & (kind != NO_CONFLICT)
+}
+
+// The lowest marked node that has a conflict, or the count where none has one.
+pub fn lowest_conflict(
+    book: &[u8],
+    base: usize,
+    count: usize,
+    table: &[u64],
+    marks: &[u64],
+) -> usize
+    requires { ⌜ GoodNodes (now book) base count 64 ⌝ }
+    requires { ⌜ 4 * count ≤ length (now table) ⌝ }
+    requires { ⌜ Facts (nodes (now book) base count) count (now table) ⌝ }
+    requires { ⌜ 8 ≤ length (now marks) ⌝ }
+    ensures { λ r. ⌜ LowestConflict (nodes (now (book .entry)) base count) (Marked (now (marks .entry))) count r ⌝ }
+{
+    let mut n = 0;
+    while n < count {
+        if conflicting(book, base, count, n, table, marks) {
+            return n;
+        }
+        n += 1;
+    }
+    n
 }

@@ -1,5 +1,6 @@
 -- `plan::bad_column` meets its contract. The loop's invariant: what is left to search gives the answer. The measure is what is left of
 -- the kinds.
+use mathlib.Core.Path.{refl}
 use Prim.Native.Nat.{_+_, _-_, _≤_}
 use native.Mathlib.Omega.{arith}
 use borrow.Author.Needs.{needs}
@@ -19,19 +20,16 @@ abbrev μ-loop : tie.MeasureT-loop
 loop-holds : tie.Need-loop-holds Inv-loop μ-loop
 loop-holds c = (searched-none _ _, omega arith)
 
-add-wide : tie.Need-add-wide Inv-loop μ-loop
-add-wide c = search needs
+add-cell : tie.Need-add-cell Inv-loop μ-loop
+add-cell c = search needs
 
-shared-slice-read-wide : tie.Need-shared-slice-read-wide Inv-loop μ-loop
-shared-slice-read-wide c = search needs
-
-wide-requires : tie.Need-wide-requires Inv-loop μ-loop
-wide-requires c κs = search needs
+shared-slice-read-cell : tie.Need-shared-slice-read-cell Inv-loop μ-loop
+shared-slice-read-cell c = search needs
 
 returns : tie.Need-returns Inv-loop μ-loop
 unfolding badColumn
-returns c = searched-bad _ (c .before .before .before .before .loop .inv .0) (omega arith)
-    (kind-column _ _ _ _ _ (c .before .before .before .loop-test .taken) (c .before .wide .ensures .0) (not-true _ (c .if1 .taken)))
+returns c = searched-bad _ (c .before .before .before .loop .inv .0) (omega arith)
+    (kind-column _ _ _ _ _ (c .before .before .loop-test .taken) refl (not-true _ (c .if1 .taken)))
 
 add-column : tie.Need-add-column Inv-loop μ-loop
 add-column c = search needs
@@ -41,34 +39,36 @@ loop-less c = search needs
 
 loop-again : tie.Need-loop-again Inv-loop μ-loop
 loop-again c = (
-  searched-more _ (c .before .before .before .before .loop .inv .0) (omega arith)
-      (kind-column _ _ _ _ _ (c .before .before .before .loop-test .taken) (c .before .wide .ensures .0) (not-false _ (c .if1 .left))),
+  searched-more _ (c .before .before .before .loop .inv .0) (omega arith)
+      (kind-column _ _ _ _ _ (c .before .before .loop-test .taken) refl (not-false _ (c .if1 .left))),
   omega arith,
 )
 
-add-wide-2 : tie.Need-add-wide-2 Inv-loop μ-loop
-add-wide-2 c = search needs
+add-if2 : tie.Need-add-if2 Inv-loop μ-loop
+add-if2 c = search needs
 
-shared-slice-read-wide-2 : tie.Need-shared-slice-read-wide-2 Inv-loop μ-loop
-shared-slice-read-wide-2 c = search needs
-
-wide-requires-2 : tie.Need-wide-requires-2 Inv-loop μ-loop
-wide-requires-2 c κs = search needs
+shared-slice-read-if2 : tie.Need-shared-slice-read-if2 Inv-loop μ-loop
+shared-slice-read-if2 c = search needs
 
 add-result : tie.Need-add-result Inv-loop μ-loop
 add-result c = search needs
+
+-- past the kinds the search stands at the last cell
+last : (c : tie.After-loop Inv-loop μ-loop)
+    → Searched (columnGood (c .before .before .args .plan .now) (c .before .before .args .at) (c .before .before .args .kinds) (c .before .before .args .one) (c .before .before .args .other)) (c .before .before .args .kinds + 1) (c .before .before .args .kinds)
+last c = at-last (Searched _ _) (c .before .loop .inv .0) (c .before .loop .inv .1) (c .loop-test .left)
 
 returns-2 : tie.Need-returns-2 Inv-loop μ-loop
 unfolding badColumn
 returns-2 c =
     searched-all _
-    (searched-more _ (at-last _ _ _ (c .before .before .before .before .loop .inv .0) (c .before .before .before .before .loop .inv .1) (c .before .before .before .loop-test .left)) (omega arith) (last-column _ _ _ _ _ (c .before .wide2 .ensures .0) (le-leb _ _ (c .if2 .taken))))
+    (searched-more _ (last (c .before .before)) (omega arith) (last-column _ _ _ _ _ refl (le-leb _ _ (c .if2 .taken))))
     (omega arith)
 
 returns-3 : tie.Need-returns-3 Inv-loop μ-loop
 unfolding badColumn
 returns-3 c =
-    searched-bad _ (at-last _ _ _ (c .before .before .before .before .loop .inv .0) (c .before .before .before .before .loop .inv .1) (c .before .before .before .loop-test .left)) (omega arith) (last-column _ _ _ _ _ (c .before .wide2 .ensures .0) (lt-leb _ _ (c .if2 .left)))
+    searched-bad _ (last (c .before .before)) (omega arith) (last-column _ _ _ _ _ refl (lt-leb _ _ (c .if2 .left)))
 
 pub bad-column-spec : {M : Type 1} → statement M
 bad-column-spec =
@@ -77,16 +77,14 @@ bad-column-spec =
     Inv-loop
     μ-loop
     loop-holds
-    add-wide
-    shared-slice-read-wide
-    wide-requires
+    add-cell
+    shared-slice-read-cell
     returns
     add-column
     loop-less
     loop-again
-    add-wide-2
-    shared-slice-read-wide-2
-    wide-requires-2
+    add-if2
+    shared-slice-read-if2
     add-result
     returns-2
     returns-3)

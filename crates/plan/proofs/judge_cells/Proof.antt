@@ -1,10 +1,13 @@
 -- `plan::judge_cells` meets its contract. The loop's invariant: what is left to search gives the answer, and `at` is where the row begins. The
 -- measure is what is left of the count.
-use mathlib.Core.Path.{_≡_, refl}
-use Prim.Native.Nat.{_-_}
+use mathlib.Core.Path.{_≡_, refl, sym, ap, _∙_}
+use mathlib.Core.Bool.{true, false}
+use Prim.Native.Nat.{_+_, _-_, _≤_}
 use native.Mathlib.Omega.{arith}
 use borrow.Author.Needs.{needs}
-use Rattle.plan.specs.Form.{rowsAt, badIn}
+use borrow.Author.Tests.{not-true, not-false, ltb-false}
+use lib.Dec.{ltb}
+use Rattle.plan.specs.Form.{rowsAt, planSize, badIn, rowGood}
 use Rattle.plan.proofs.Rows.{RowsSearched, rows-none, found-is, rows-more, rows-bad, rows-all, row-within}
 use Rattle.plan.proofs.judge_cells.Statement.{statement}
 use Rattle.plan.proofs.judge_cells.Tie as tie
@@ -24,6 +27,10 @@ add-rows c = search needs
 loop-holds : tie.Need-loop-holds Inv-loop μ-loop
 loop-holds c = (refl, rows-none _ _ _)
 
+-- the row stands within the plan
+row-in : (c : tie.In-loop Inv-loop μ-loop) → c .before .loop .at + (c .before .before .before .args .kinds + 1) ≤ planSize (c .before .before .before .args .count) (c .before .before .before .args .kinds)
+row-in c = rw (c .before .loop .inv .1 .at-is) (row-within _ _ (c .loop-test .taken))
+
 node-at-requires : tie.Need-node-at-requires Inv-loop μ-loop
 node-at-requires c κs = search needs
 
@@ -33,31 +40,47 @@ one-cell-requires c κs = search needs
 other-cell-requires : tie.Need-other-cell-requires Inv-loop μ-loop
 other-cell-requires c κs = search needs
 
+-- the test of a row is the definition's, for the node's own cells
+tested : (c : tie.After-row-good Inv-loop μ-loop) → c .row-good .result ≡ rowGood (c .before .before .before .before .before .before .before .args .plan .now) (c .before .before .before .before .before .before .before .args .count) (c .before .before .before .before .before .before .before .args .kinds) (c .before .before .before .before .before .loop .n)
+tested c =
+    c .row-good .ensures
+    ∙ ap (ltb (c .before .before .before .before .before .before .before .args .kinds)) (found-is _ _ _ (c .before .before .before .before .before .loop .inv .1) (c .before .before .before .node-at .ensures) (c .before .before .one-cell .ensures) (c .before .other-cell .ensures))
+
+-- a row that is left has a bad cell, in the column that the search gives
+row-bad : (c : tie.Then1 Inv-loop μ-loop) → rowGood (c .before .before .before .before .before .before .before .before .args .plan .now) (c .before .before .before .before .before .before .before .before .args .count) (c .before .before .before .before .before .before .before .before .args .kinds) (c .before .before .before .before .before .before .loop .n) ≡ false
+row-bad c = sym (tested (c .before)) ∙ not-true _ (c .if1 .taken)
+
+found : (c : tie.After-bad-column Inv-loop μ-loop) → c .bad-column .result ≡ badIn (c .before .before .before .before .before .before .before .before .before .args .plan .now) (c .before .before .before .before .before .before .before .before .before .args .count) (c .before .before .before .before .before .before .before .before .before .args .kinds) (c .before .before .before .before .before .before .before .loop .n)
+found c =
+    c .bad-column .ensures
+    ∙ found-is _ _ _ (c .before .before .before .before .before .before .before .loop .inv .1) (c .before .before .before .before .before .node-at .ensures) (c .before .before .before .before .one-cell .ensures) (c .before .before .before .other-cell .ensures)
+
+column-small : (c : tie.After-bad-column Inv-loop μ-loop) → c .bad-column .result ≤ c .before .before .before .before .before .before .before .before .before .args .kinds
+column-small c = rw (found c) (ltb-false _ _ (row-bad (c .before)))
+
+row-good-requires : tie.Need-row-good-requires Inv-loop μ-loop
+row-good-requires c κs = omega (arith, row-in (c .before .before .before))
+
 bad-column-requires : tie.Need-bad-column-requires Inv-loop μ-loop
-bad-column-requires c κs = omega (arith, row-within (c .before .before .before .before .before .before .args .count) (c .before .before .before .before .before .before .args .kinds) (c .before .before .before .loop-test .taken))
+bad-column-requires c κs = omega (arith, row-in (c .before .before .before .before .before))
 
-sub-t13 : tie.Need-sub-t13 Inv-loop μ-loop
-sub-t13 c = omega (arith, row-within (c .before .before .before .before .before .before .before .before .args .count) (c .before .before .before .before .before .before .before .before .args .kinds) (c .before .before .before .before .before .loop-test .taken))
+sub-t14 : tie.Need-sub-t14 Inv-loop μ-loop
+sub-t14 c = omega (arith, row-in (c .before .before .before .before .before .before))
 
-add-t14 : tie.Need-add-t14 Inv-loop μ-loop
-add-t14 c = omega (arith, row-within (c .before .before .before .before .before .before .before .before .args .count) (c .before .before .before .before .before .before .before .before .args .kinds) (c .before .before .before .before .before .loop-test .taken))
+add-t15 : tie.Need-add-t15 Inv-loop μ-loop
+add-t15 c = omega (arith, column-small c, row-in (c .before .before .before .before .before .before))
 
-cast-t15 : tie.Need-cast-t15 Inv-loop μ-loop
-cast-t15 c = omega (arith, row-within (c .before .before .before .before .before .before .before .before .args .count) (c .before .before .before .before .before .before .before .before .args .kinds) (c .before .before .before .before .before .loop-test .taken))
-
--- the column that the search of a row gave
-found : (c : tie.After-bad-column Inv-loop μ-loop)
-    → c .bad-column .result ≡ badIn (c .before .before .before .before .before .before .before .args .plan .now) (c .before .before .before .before .before .before .before .args .count) (c .before .before .before .before .before .before .before .args .kinds) (c .before .before .before .before .before .loop .n)
-found c = found-is _ _ _ (c .before .before .before .before .before .loop .inv .1) (c .before .before .before .node-at .ensures) (c .before .before .one-cell .ensures) (c .before .other-cell .ensures) (c .bad-column .ensures)
+cast-t16 : tie.Need-cast-t16 Inv-loop μ-loop
+cast-t16 c = omega (arith, column-small c, row-in (c .before .before .before .before .before .before))
 
 returns : tie.Need-returns Inv-loop μ-loop
-returns c = rows-bad _ _ _ (c .before .before .before .before .before .before .loop .inv .1) (found (c .before)) (c .before .before .before .before .before .loop-test .taken) (c .if1 .taken)
+returns c = rows-bad _ _ _ (c .before .before .before .before .before .before .before .loop .inv .1) (c .before .before .before .before .before .before .loop-test .taken) (row-bad (c .before)) (found c)
 
 add-at : tie.Need-add-at Inv-loop μ-loop
-add-at c = search needs
+add-at c = omega (arith, row-in (c .before .before .before .before .before))
 
 add-at-2 : tie.Need-add-at-2 Inv-loop μ-loop
-add-at-2 c = omega (arith, row-within (c .before .before .before .before .before .before .before .before .args .count) (c .before .before .before .before .before .before .before .before .args .kinds) (c .before .before .before .before .before .loop-test .taken))
+add-at-2 c = omega (arith, row-in (c .before .before .before .before .before))
 
 add-n : tie.Need-add-n Inv-loop μ-loop
 add-n c = search needs
@@ -68,8 +91,7 @@ loop-less c = search needs
 loop-again : tie.Need-loop-again Inv-loop μ-loop
 loop-again c = (
   search needs,
-  rows-more _ _ _ (c .before .before .before .before .before .before .loop .inv .1) (found (c .before)) (c .before .before .before .before .before .loop-test .taken)
-      (c .if1 .left),
+  rows-more _ _ _ (c .before .before .before .before .before .before .loop .inv .1) (c .before .before .before .before .before .loop-test .taken) (sym (tested (c .before)) ∙ not-false _ (c .if1 .left)),
 )
 
 returns-2 : tie.Need-returns-2 Inv-loop μ-loop
@@ -87,10 +109,11 @@ judge-cells-spec =
     node-at-requires
     one-cell-requires
     other-cell-requires
+    row-good-requires
     bad-column-requires
-    sub-t13
-    add-t14
-    cast-t15
+    sub-t14
+    add-t15
+    cast-t16
     returns
     add-at
     add-at-2

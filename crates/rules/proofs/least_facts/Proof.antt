@@ -1,11 +1,9 @@
 -- `rules::least_facts` meets its contract. The loop's invariant: all that the table has is by the rules. The measure is what is left for the
 -- sum of the table's numbers to grow.
-use Prim.Native.Nat.{_*_, _-_}
-use mathlib.Core.Path.{sym, _∙_, subst}
 use native.Mathlib.Omega.{arith}
 use lib.ListN.{length}
 use Rattle.book.specs.Decode.{nodes}
-use Rattle.rules.specs.Step.{FactAt, RuleClosed}
+use Rattle.rules.specs.Step.{FactAt}
 use Rattle.rules.proofs.Growing.{blank-sound, Settling, settling-none, settling-more, settling-less, roomLeft}
 use Rattle.rules.proofs.Complete.{turned-facts}
 use Rattle.rules.proofs.least_facts.Statement.{statement}

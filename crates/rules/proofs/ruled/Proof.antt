@@ -1,7 +1,7 @@
 -- `rules::ruled` meets its contract: an arm for each type of the table.
-use borrow.Author.Needs.{needs}
-use native.Mathlib.Omega.{arith}
 use mathlib.Core.Path.{refl, ap}
+use native.Mathlib.Omega.{arith}
+use borrow.Author.Needs.{needs}
 use Rattle.rules.specs.Step.{ruledOf, kindOf}
 use Rattle.rules.proofs.ruled.Statement.{statement}
 use Rattle.rules.proofs.ruled.Tie as tie
@@ -30,8 +30,14 @@ single-requires c κs = omega (arith, c .before .before .before .before .pre, ap
 enum-told-3 : tie.Need-enum-told-3
 enum-told-3 c = search needs
 
+either-facts-requires : tie.Need-either-facts-requires
+either-facts-requires c κs = search needs
+
 enum-told-4 : tie.Need-enum-told-4
 enum-told-4 c = search needs
+
+then-facts-requires : tie.Need-then-facts-requires
+then-facts-requires c κs = search needs
 
 enum-told-5 : tie.Need-enum-told-5
 enum-told-5 c = search needs
@@ -53,11 +59,11 @@ returns-3 c = rw (c .before .before .before .node .given .1, c .before .every3 .
 
 returns-4 : tie.Need-returns-4
 unfolding ruledOf
-returns-4 c = rw (c .before .before .before .before .before .before .before .before .before .before .before .before .enum-told3 .given .1) refl
+returns-4 c = rw (c .before .enum-told3 .given .1) (c .either-facts .ensures)
 
 returns-5 : tie.Need-returns-5
 unfolding ruledOf
-returns-5 c = rw (c .before .before .before .before .before .before .before .before .before .before .before .before .enum-told4 .given .1) refl
+returns-5 c = rw (c .before .enum-told4 .given .1) (c .then-facts .ensures)
 
 returns-6 : tie.Need-returns-6
 unfolding ruledOf
@@ -79,7 +85,9 @@ ruled-spec =
     every-requires-3
     single-requires
     enum-told-3
+    either-facts-requires
     enum-told-4
+    then-facts-requires
     enum-told-5
     enum-told-6
     returns

@@ -1,6 +1,5 @@
 -- `rules::turn` meets its contract. The loop's invariant: the first steps of the turn have been made. The measure is what is left of them.
 use Prim.Native.Nat.{_*_, _-_}
-use mathlib.Core.Path.{sym, _∙_}
 use native.Mathlib.Omega.{arith}
 use borrow.Author.Needs.{needs}
 use Rattle.book.specs.Decode.{nodes}

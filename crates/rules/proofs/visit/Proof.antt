@@ -1,5 +1,4 @@
 -- `rules::visit` meets its contract: the node is read, the table has its left and right, and what the rules give is put there.
-use mathlib.Core.Path.{_≡_}
 use native.Mathlib.Omega.{arith}
 use borrow.Author.Needs.{needs}
 use Rattle.rules.proofs.Reading.{node-is, left-inside, right-inside, kind-inside}

@@ -1,0 +1,114 @@
+-- The listing program: what it reads, and what it writes for it. Its input is the book's length, the book, then the events.
+use Prim.Native.Nat.{ℕ, _+_, _≤_}
+use mathlib.Core.Path.{_≡_}
+use mathlib.Core.Logic.{_≢_}
+use mathlib.Core.Bool.{cond}
+use mathlib.Core.List.{List}
+use lib.Dec.{ltb, eqb}
+use lib.ListN.{length, take, drop}
+use Rattle.words.specs.Words.{u16At}
+use Rattle.book.specs.Form.{DONE}
+use Rattle.compiler.specs.declared.Compiled.{Compiled}
+use Rattle.compiler.specs.Compiles.{Compiles}
+use Rattle.reader.specs.declared.Reading.{Reading}
+use Rattle.reader.specs.Numbers.{NO-ROOM}
+use Rattle.reader.specs.Reads.{Outcome, readOf}
+use Rattle.listed.specs.declared.Shape.{Shape}
+use Rattle.listed.specs.declared.Shape.the-variants.{TooLong, TooShort, Whole}
+use Rattle.listed.specs.Lines.{refusedRoom, acceptedRoom, inputTooLong, inputTooShort, refusedLine, acceptedLines}
+
+-- the longest book, and the room for events
+abbrev pub longestBook : ℕ
+longestBook = 3090
+
+abbrev pub eventRoom : ℕ
+eventRoom = 4096
+
+-- the bytes that decide: the length, the longest book, the events and one event more
+abbrev pub inputRoom : ℕ
+inputRoom = 2 + longestBook + eventRoom + 1
+
+-- the buffers: the plan's, which holds the largest plan, the holding slots and the tree's records
+abbrev pub planRoom : ℕ
+planRoom = 36376
+
+abbrev pub slotRoom : ℕ
+slotRoom = 512
+
+abbrev pub treeRoom : ℕ
+treeRoom = 8192
+
+-- the book's length, the book and the run that an input has
+unfoldable pub bookSize : List ℕ → ℕ
+bookSize input = u16At input 0
+
+unfoldable pub bookIn : List ℕ → List ℕ
+bookIn input = take (bookSize input) (drop 2 input)
+
+unfoldable pub runIn : List ℕ → List ℕ
+runIn input = drop (2 + bookSize input) input
+
+-- whether an input is too long, too short or whole
+unfoldable pub shapeOf : List ℕ → Shape
+shapeOf input =
+    cond (ltb (length input) 2)
+    TooShort
+    (cond (ltb longestBook (bookSize input))
+    TooLong
+    (cond (ltb (length input) (2 + bookSize input))
+    TooShort
+    (cond (ltb (2 + bookSize input + eventRoom) (length input)) TooLong Whole)))
+
+-- what is written for a book that is refused: the third value is the kind
+unfoldable pub compiledLine : Compiled → List ℕ
+compiledLine answer = refusedLine (answer .number) (answer .place) (answer .kind)
+
+-- the third value of a reading's refusal: the records at NO ROOM, else the kinds expected
+unfoldable pub thirdOf : Reading → ℕ
+thirdOf answer = cond (eqb (answer .number) NO-ROOM) (answer .records) (answer .expected)
+
+-- what is written for a run of so many events that was read
+unfoldable pub readingLines : ℕ → Outcome → List ℕ
+readingLines events read =
+    cond (eqb (read .reading .number) DONE)
+    (acceptedLines events (read .reading .records) (take (read .reading .records) (read .tree)))
+    (refusedLine (read .reading .number) (read .reading .place) (thirdOf (read .reading)))
+
+-- what the program writes for an input
+pub data Lists (input : List ℕ) : List ℕ → Type 0 where
+  too-long : shapeOf input ≡ TooLong → Lists input inputTooLong
+  too-short : shapeOf input ≡ TooShort → Lists input inputTooShort
+  book-refused : {answer : Compiled} {plan : List ℕ}
+      → shapeOf input ≡ Whole
+      → Compiles (bookIn input) planRoom answer plan
+      → answer .number ≢ DONE
+      → Lists input (compiledLine answer)
+  run-read : {answer : Compiled} {plan : List ℕ}
+      → shapeOf input ≡ Whole
+      → Compiles (bookIn input) planRoom answer plan
+      → answer .number ≡ DONE
+      → Lists input (readingLines (length (runIn input)) (readOf (take (answer .size) plan) (runIn input) slotRoom treeRoom))
+
+-- an output with room for the lines of a run that was read, and, where it was accepted, a tree with all its records
+pub record Room (out : List ℕ) (answer : Reading) (tree : List ℕ) : Type 0 where
+  pub line : refusedRoom ≤ length out
+  pub lines : acceptedRoom (length tree) ≤ length out
+  pub records : answer .number ≡ DONE → answer .records ≤ length tree
+
+-- the buffers lent to read a run, each of its size, and an output that always suffices
+pub record RunLent (out held tree : List ℕ) : Type 0 where
+  pub output : acceptedRoom treeRoom ≤ length out
+  pub slots : length held ≡ slotRoom
+  pub records : length tree ≡ treeRoom
+
+-- all the lent buffers
+pub record Lent (out plan held tree : List ℕ) : Type 0 where
+  pub cells : length plan ≡ planRoom
+  pub others : RunLent out held tree
+
+-- the front of an output, so many bytes, is what the program writes for an input, and the rest is as it was
+pub record Listed (input before after : List ℕ) (count : ℕ) : Type 0 where
+  pub within : count ≤ length after
+  pub front : count ≡ length (take count after)
+  pub lists : Lists input (take count after)
+  pub rest : drop count after ≡ drop count before

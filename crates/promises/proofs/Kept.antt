@@ -1,0 +1,122 @@
+-- The promises are kept: each statement of specs/Promises.antt, for all bytes.
+use Prim.Native.Nat.{ℕ, _≤_, _<_}
+use native.Mathlib.Omega.{arith}
+use mathlib.Core.Path.{_≡_, refl}
+use mathlib.Core.Logic.{_↔_, _≢_}
+use mathlib.Core.List.{List, []}
+use lib.ListN.{length, take}
+use Rattle.book.specs.Book.{Book}
+use Rattle.words.specs.Words.{zeros}
+use Rattle.book.specs.Form.{DONE, formOf, bookOf}
+use Rattle.plan.specs.Cells.{Marks, Marked}
+use Rattle.rules.specs.Rules.{Reach}
+use Rattle.compiler.specs.declared.Compiled.{Compiled}
+use Rattle.compiler.specs.Compiles.{Compiles, sizeOf}
+use Rattle.compiler.proofs.Some.{compiles-some}
+use Rattle.compiler.proofs.Unique.{compiles-unique}
+use Rattle.compiler.proofs.Promise.{answer-listed, room-kept, refused-clear, passes-exactly, passed-plan, passed-cell, passed-last}
+use Rattle.compiler.proofs.ShutOut.{not-all-refused, not-all-passed, not-all-clear}
+use Rattle.reader.specs.declared.Reading.{Reading}
+use Rattle.reader.specs.Numbers.{DEEP, NO-ROOM}
+use Rattle.reader.specs.Reads.{Reads, readOf}
+use Rattle.reader.specs.Steps.{steps, closed, begun}
+use Rattle.reader.proofs.Answers.{reads-unique, read-told, number-listed, tree-length, refused-zero, records-counted, records-bounded}
+use Rattle.reader.proofs.Fold.{reading-steps}
+use Rattle.plan.specs.Form.{planFrom}
+use Rattle.plan.specs.Running.{Plan, reading}
+use Rattle.meaning.specs.Meaning.{Derives, Passes}
+use Rattle.meaning.proofs.Unique.{derivation-unique}
+use Rattle.worked.specs.Worked.{Each, Holds, table}
+use Rattle.worked.proofs.Checked.{worked}
+use Rattle.promises.specs.Promises.{CompileAnswers, ReadAnswers, PassesExactly, PlanByRules, slotsEnough, roomEnough, ReadsAsMeant, FewRecords, OneDerivation, wider}
+use Rattle.promises.proofs.More.{slots-more, room-more}
+use Rattle.promises.proofs.Meant.{passed-passes, passed-reads, passed-records}
+
+-- Demand 1: every compiling call has an answer, and one only
+pub compiling-answers : (bytes : List ℕ) (room : ℕ) → (a : Compiled) × (plan : List ℕ) × Compiles bytes room a plan
+compiling-answers bytes room = compiles-some bytes room
+
+pub compiling-answers-once : {bytes : List ℕ} {room : ℕ} {a a′ : Compiled} {plan plan′ : List ℕ}
+    → Compiles bytes room a plan → Compiles bytes room a′ plan′ → (a ≡ a′) × (plan ≡ plan′)
+compiling-answers-once one other = compiles-unique one other
+
+-- Demand 1: the answer is a listed one, and a refusal leaves zeros
+pub compiling-listed : {bytes : List ℕ} {room : ℕ} {a : Compiled} {plan : List ℕ} → Compiles bytes room a plan → CompileAnswers room a plan
+compiling-listed compiled =
+    record { listed = answer-listed compiled; whole = room-kept compiled; refused-zero = refused-clear compiled }
+
+pub reading-listed : (plan run : List ℕ) (slots room : ℕ) → ReadAnswers plan run slots room (readOf plan run slots room)
+unfolding planFrom
+reading-listed plan run slots room =
+    let told = read-told plan run slots room in
+    record {
+      listed = number-listed told;
+      whole = tree-length told;
+      refused-zero = refused-zero told;
+      counted = records-counted told;
+      few-records = records-bounded told;
+    }
+
+-- Demand 1: a reading call's answer and what it leaves of both buffers are determined; the slots are zero
+pub reading-answers-once : {plan run held tree : List ℕ} {a a′ : Reading} {held-after held-after′ tree-after tree-after′ : List ℕ}
+    → Reads plan run held tree a held-after tree-after → Reads plan run held tree a′ held-after′ tree-after′
+    → (a ≡ a′) × (held-after ≡ held-after′) × (tree-after ≡ tree-after′)
+reading-answers-once one other = reads-unique one other
+
+-- reading is the fold of the step: the events one after the other, then the end
+pub reading-folds : (p : Plan) (run : List ℕ) → reading p run ≡ closed p (steps p (begun p) run)
+reading-folds p run = reading-steps p run
+
+-- Demand 2
+pub demand-2-passes : {bytes : List ℕ} {room : ℕ} {a : Compiled} {plan : List ℕ} → Compiles bytes room a plan → PassesExactly bytes room a
+demand-2-passes compiled = passes-exactly compiled
+
+pub demand-2-plan : {bytes : List ℕ} {room : ℕ} {a : Compiled} {plan : List ℕ} → Compiles bytes room a plan → a .number ≡ DONE
+    → {marks : Marks} → Marked (bookOf bytes .node) marks → PlanByRules bytes room plan marks
+demand-2-plan compiled is marked =
+    record { plan-is = passed-plan compiled is marked; cell-is = passed-cell compiled is marked; mark-is = passed-last compiled is marked }
+
+-- Demand 3
+module _ {bytes : List ℕ} {room : ℕ} {a : Compiled} {plan : List ℕ} (compiled : Compiles bytes room a plan) (is : a .number ≡ DONE) where
+  pub demand-3 : (run : List ℕ) (slots tree-room : ℕ) → length run ≤ 65535
+      → slotsEnough (bookOf bytes .count) (length run) ≤ slots → roomEnough (bookOf bytes .count) (length run) ≤ tree-room
+      → ReadsAsMeant (bookOf bytes) run tree-room (readOf (take (a .size) plan) run slots tree-room)
+  demand-3 run slots tree-room short slots-do room-does = passed-reads compiled is run slots tree-room short slots-do room-does
+
+  pub demand-3-records : (run : List ℕ) (slots tree-room : ℕ) → readOf (take (a .size) plan) run slots tree-room .reading .number ≡ DONE
+      → FewRecords (bookOf bytes .count) (length run) (readOf (take (a .size) plan) run slots tree-room .reading .records)
+  demand-3-records run slots tree-room done = passed-records compiled is run slots tree-room done
+
+  -- the only derivation there is
+  pub demand-3-one-derivation : (n : ℕ) → Reach (bookOf bytes .node) (bookOf bytes .start) n → {run : List ℕ}
+      (d e : Derives (bookOf bytes .node) (bookOf bytes .node n) run) → OneDerivation d e
+  demand-3-one-derivation n reached d e =
+      let same = derivation-unique (passed-passes compiled is) n reached d e in
+      record { same-whole = same .0; same-records = same .1 }
+
+-- an answer other than DEEP is the same with more slots, and one other than NO ROOM with more tree room
+pub more-slots-same : (plan run : List ℕ) (slots more room : ℕ) → slots ≤ more → readOf plan run slots room .reading .number ≢ DEEP
+    → readOf plan run slots room ≡ readOf plan run more room
+more-slots-same plan run slots more room grows not-deep = slots-more plan run slots room more grows not-deep
+
+pub more-room-same : (plan run : List ℕ) (slots room more : ℕ) → room ≤ more → readOf plan run slots room .reading .number ≢ NO-ROOM
+    → readOf plan run slots more ≡ wider room more (readOf plan run slots room)
+more-room-same plan run slots room more grows roomy = room-more room more grows plan run slots roomy
+
+-- Demand 2 shuts out a compiler that refuses all books, one that passes all, and one that writes no plan
+module _ (answers : List ℕ → ℕ → Compiled) (plans : List ℕ → ℕ → List ℕ)
+    (meets : (bytes : List ℕ) (room : ℕ) → Compiles bytes room (answers bytes room) (plans bytes room)) where
+  pub no-compiler-refuses-all :
+      ((bytes : List ℕ) (room : ℕ) → formOf bytes .number ≡ DONE → sizeOf (bookOf bytes) ≤ room → answers bytes room .number ≢ DONE) → ⊥
+  no-compiler-refuses-all = not-all-refused answers plans meets
+
+  pub no-compiler-passes-all :
+      ((bytes : List ℕ) (room : ℕ) → formOf bytes .number ≡ DONE → sizeOf (bookOf bytes) ≤ room → answers bytes room .number ≡ DONE) → ⊥
+  no-compiler-passes-all = not-all-passed answers plans meets
+
+  pub no-compiler-writes-no-plan : ((bytes : List ℕ) (room : ℕ) → plans bytes room ≡ zeros room) → ⊥
+  no-compiler-writes-no-plan = not-all-clear answers plans meets
+
+-- the worked table
+pub worked-table : Each Holds table
+worked-table = worked

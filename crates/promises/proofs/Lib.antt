@@ -1,0 +1,4 @@
+pub mod Kept
+mod Meant
+mod More
+mod Outcomes

@@ -1,0 +1,132 @@
+-- How many records a reading writes, of any plan: at most (2N − 2) · events + 1.
+use mathlib.Core.Path.{_≡_, refl, subst}
+use mathlib.Core.Bool.{Bool, true, false}
+use mathlib.Core.List.{List, [], _∷_, _++_}
+use Prim.Native.Nat.{ℕ, zero, suc, _+_, _*_, _-_, _≤_, _<_}
+use native.Mathlib.Nat.{mul-suc, mul-zero, zero-add}
+use native.Mathlib.Omega.{arith}
+use lib.Dec.{ltb}
+use lib.ListN.{length, length-append}
+use Rattle.plan.specs.Running.{Plan, emptied, Step, taken, refused, deep, runaway, noted, pick, visit, takeOff, walk, event, Answer, accepted, deep-at, unknown-at, unexpected-at, end-at, runaway-at, logged, onward, finish, reads, reading}
+
+-- the records of an event and the parts then held are fewer than a number
+pub data Within (b : ℕ) : Step → Type 0 where
+  taken-within : (held records : List ℕ) → length records + length held < b → Within b (taken held records)
+  refused-within : Within b refused
+  deep-within : Within b deep
+  runaway-within : Within b runaway
+
+pub within-more : {b : ℕ} {step : Step} (more : ℕ) → b ≤ more → Within b step → Within more step
+within-more more le (taken-within held records few) = taken-within held records (omega arith)
+within-more more le refused-within = refused-within
+within-more more le deep-within = deep-within
+within-more more le runaway-within = runaway-within
+
+within-noted : {b : ℕ} {step : Step} (r : ℕ) → Within b step → Within (suc b) (noted r step)
+unfolding noted
+within-noted r (taken-within held records few) = taken-within held (r ∷ records) (omega arith)
+within-noted r refused-within = refused-within
+within-noted r deep-within = deep-within
+within-noted r runaway-within = runaway-within
+
+-- a visit, by how the walk goes on with so many visits left
+visit-within : (left : ℕ) (go : ℕ → List ℕ → Step) → ((n : ℕ) (held : List ℕ) → Within (length held + 2 * left) (go n held))
+    → (c : ℕ) (free : ℕ → Bool) (l r : ℕ) (held : List ℕ) → Within (suc (length held + 2 * left)) (visit c go free l r held)
+unfolding visit
+visit-within left go goes zero free l r held = refused-within
+visit-within left go goes (suc zero) free l r held = taken-within held [] (omega arith)
+visit-within left go goes (suc (suc zero)) free l r held = within-more _ (omega arith) (goes l held)
+visit-within left go goes (suc (suc (suc zero))) free l r held = by-slot (free (length held))
+  where
+    by-slot : (yes-free : Bool) → Within (suc (length held + 2 * left)) (pick yes-free (go l (r ∷ held)) deep)
+    by-slot true = within-more _ (omega arith) (goes l (r ∷ held))
+    by-slot false = deep-within
+visit-within left go goes (suc (suc (suc (suc zero)))) free l r held = within-noted (emptied l) (goes r held)
+visit-within left go goes (suc (suc (suc (suc (suc zero))))) free l r held = within-more _ (omega arith) (goes r held)
+visit-within left go goes (suc (suc (suc (suc (suc (suc c)))))) free l r held = refused-within
+
+-- an answer's records are no more than a number
+pub data Few (b : ℕ) : Answer → Type 0 where
+  accepted-few : (records : List ℕ) → length records ≤ b → Few b (accepted records)
+  deep-few : {i : ℕ} → Few b (deep-at i)
+  unknown-few : {i : ℕ} {held : List ℕ} → Few b (unknown-at i held)
+  unexpected-few : {i : ℕ} {held : List ℕ} → Few b (unexpected-at i held)
+  end-few : {i : ℕ} {held : List ℕ} → Few b (end-at i held)
+  runaway-few : {i : ℕ} → Few b (runaway-at i)
+
+few-logged : {b : ℕ} {answer : Answer} (more : ℕ) (records : List ℕ) → length records + b ≤ more → Few b answer → Few more (logged records answer)
+unfolding logged
+few-logged more records le (accepted-few rest few) = accepted-few (records ++ rest) (simp length-append (omega arith))
+few-logged more records le deep-few = deep-few
+few-logged more records le unknown-few = unknown-few
+few-logged more records le unexpected-few = unexpected-few
+few-logged more records le end-few = end-few
+few-logged more records le runaway-few = runaway-few
+
+module _ (p : Plan) where
+  module _ (k : ℕ) where
+    walk-within : (left n : ℕ) (held : List ℕ) → Within (length held + 2 * left) (walk p k left n held)
+    unfolding walk
+    walk-within zero n held = runaway-within
+    walk-within (suc left) n held =
+        within-more _ (omega arith)
+        (within-noted n (visit-within left (λ m h. walk p k left m h) (walk-within left) (p .cell n k) (p .free) (p .left n) (p .right n) held))
+
+    off-within : {b : ℕ} (c : ℕ) (null : Bool) {walked passed : Step} → Within b walked → Within b passed → Within b (takeOff c null walked passed)
+    unfolding takeOff
+    off-within zero true walked passed = passed
+    off-within zero false walked passed = refused-within
+    off-within (suc c) null walked passed = walked
+
+    -- records and parts held grow by at most 2N − 2 at an event
+    pub event-within : (n : ℕ) (held : List ℕ) → Within (length held + 2 * p .count) (event p k (n ∷ held))
+    unfolding event noted
+    event-within n [] = off-within (p .cell n k) (p .null n) (walk-within (p .count) n []) refused-within
+    event-within n (m ∷ held) =
+        off-within (p .cell n k) (p .null n) (walk-within (p .count) n (m ∷ held))
+        (within-more _ (omega arith) (within-noted (emptied n) (event-within m held)))
+
+  finish-few : (at : ℕ) (before held : List ℕ) → Few (length held) (finish p at before held)
+  unfolding finish
+  finish-few at before [] = accepted-few [] (omega arith)
+  finish-few at before (n ∷ held) = by-null (p .null n) (finish-few at before held)
+    where
+      by-null : (null : Bool) → Few (length held) (finish p at before held)
+          → Few (suc (length held)) (pick null (logged (emptied n ∷ []) (finish p at before held)) (end-at at before))
+      by-null true rest = few-logged _ (emptied n ∷ []) (omega arith) rest
+      by-null false rest = end-few
+
+  -- records to come and parts held grow by at most 2N − 2 for each event
+  abbrev most : ℕ → List ℕ → ℕ
+  most parts run = (2 * p .count - 2) * length run + parts
+
+  pub reads-few : (at : ℕ) (held run : List ℕ) → Few (most (length held) run) (reads p at held run)
+  unfolding reads event onward
+  reads-few at held [] = few-more (finish-few at held held)
+    where
+      few-more : Few (length held) (finish p at held held) → Few (most (length held) []) (finish p at held held)
+      few-more few = rw (mul-zero (2 * p .count - 2), zero-add (length held)) few
+  reads-few at held (k ∷ run) = by-kind (ltb k (p .kinds)) held (λ h. reads-few (suc at) h run)
+    where
+      by-step : {b : ℕ} {step : Step} (before : List ℕ) → b ≤ length before + (2 * p .count - 2) + 1 → Within b step
+          → ((h : List ℕ) → Few (most (length h) run) (reads p (suc at) h run))
+          → Few (most (length before) (k ∷ run)) (onward step (λ h. reads p (suc at) h run) at before)
+      by-step before le (taken-within h records few) rest =
+          few-logged _ records (omega (arith, mul-suc (2 * p .count - 2) (length run))) (rest h)
+      by-step before le refused-within rest = unexpected-few
+      by-step before le deep-within rest = deep-few
+      by-step before le runaway-within rest = runaway-few
+
+      by-kind : (known : Bool) (parts : List ℕ) → ((h : List ℕ) → Few (most (length h) run) (reads p (suc at) h run))
+          → Few (most (length parts) (k ∷ run)) (pick known (onward (event p k parts) (λ h. reads p (suc at) h run) at parts) (unknown-at at parts))
+      by-kind true [] rest = unexpected-few
+      by-kind true (n ∷ parts) rest = by-step (n ∷ parts) (omega arith) (event-within k n parts) rest
+      by-kind false parts rest = unknown-few
+
+  -- the records of an accepted run
+  pub records-few : (run : List ℕ) {records : List ℕ} → reading p run ≡ accepted records → length records ≤ (2 * p .count - 2) * length run + 1
+  unfolding reading
+  records-few run e = counted (subst (λ (answer : Answer). Few (most 1 run) answer) e (reads-few 0 (p .start ∷ []) run))
+    where
+      counted : {b : ℕ} {records : List ℕ} → Few b (accepted records) → length records ≤ b
+      counted (accepted-few records few) = few

@@ -1,0 +1,116 @@
+-- A run's end, settled, is the outcome of reading.
+use mathlib.Core.Path.{_≡_, refl, sym, ap, ap₂, _∙_}
+use mathlib.Core.Bool.{Bool, true, false, cond}
+use mathlib.Core.List.{List, [], _∷_, _++_, append-nil}
+use Prim.Native.Nat.{ℕ, zero, suc, _+_, _-_, _≤_, _<_}
+use native.Mathlib.Nat.{zero-add}
+use native.Mathlib.Omega.{arith}
+use borrow.Author.Tests.{leb-true, le-leb, lt-leb, lt-ltb, le-ltb, eq-eqb, ne-eqb}
+use borrow.Rule.Slice.PartMut.{midOf, putMid, mid-len, post-is}
+use lib.Dec.{ltb, leb, eqb}
+use lib.ListN.{length, getD, set, take, drop, length-set}
+use lib.Seq.{sets, sets-eq, length-sets, take-at, getD-set-same, drop-length}
+use Rattle.words.specs.Words.{zeros}
+use Rattle.book.specs.Form.{DONE}
+use Rattle.plan.specs.Running.{Plan, Answer, accepted, reads, reading}
+use Rattle.plan.specs.Form.{planFrom, planOf, planCount, planKinds, planStart, planJudged}
+use Rattle.plan.proofs.Laws.{done}
+use Rattle.reader.specs.declared.Reading.{Reading}
+use Rattle.reader.specs.Numbers.{LONG, DEEP, NO-ROOM}
+use Rattle.reader.specs.Machine.{Ended, Held, answered, stack, readsOf}
+use Rattle.reader.specs.Reads.{Outcome, outcome, bare, acceptedOf, outcomeOf, runOf, readOf}
+use Rattle.reader.specs.Settled.{settledOf}
+use Rattle.reader.proofs.Runs.{Ends, as-accepted, as-deep-at, as-unknown-at, as-unexpected-at, as-end-at, as-runaway-at, reads-same}
+use Rattle.reader.proofs.Plans.{runnable, plan-bounded}
+
+-- an answer settled, by each test
+module _ (answer : Reading) (tree : List ℕ) where
+  pub settled-refused : (answer .number ≡ DONE → ⊥) → settledOf answer tree ≡ bare (length tree) answer
+  unfolding settledOf
+  settled-refused not = rw (ne-eqb (answer .number) DONE not)
+
+  pub settled-full : answer .number ≡ DONE → length tree < answer .records → settledOf answer tree ≡ bare (length tree) (answered NO-ROOM 0 (answer .records) 0)
+  unfolding settledOf
+  settled-full is full = rw (eq-eqb (answer .number) DONE is, lt-leb (answer .records) (length tree) full)
+
+  pub settled-fits : answer .number ≡ DONE → answer .records ≤ length tree
+      → settledOf answer tree ≡ outcome answer (take (answer .records) tree ++ zeros (length tree - answer .records))
+  unfolding settledOf
+  settled-fits is fits = rw (eq-eqb (answer .number) DONE is, le-leb (answer .records) (length tree) fits)
+
+-- a reading, by each test
+module _ (plan run : List ℕ) (slots room : ℕ) where
+  pub read-form : (planJudged plan .number ≡ DONE → ⊥) → readOf plan run slots room ≡ bare room (answered (planJudged plan .number) (planJudged plan .place) 0 0)
+  unfolding readOf
+  read-form not = rw (ne-eqb (planJudged plan .number) DONE not)
+
+  module _ (good : planJudged plan .number ≡ DONE) where
+    pub read-long : 65535 < length run → readOf plan run slots room ≡ bare room (answered LONG 0 0 0)
+    unfolding readOf
+    read-long long = rw (eq-eqb (planJudged plan .number) DONE good, lt-leb (length run) 65535 long)
+
+    module _ (short : length run ≤ 65535) where
+      pub read-slotless : slots ≡ 0 → readOf plan run slots room ≡ bare room (answered DEEP 0 0 0)
+      unfolding readOf
+      read-slotless none = rw (eq-eqb (planJudged plan .number) DONE good, le-leb (length run) 65535 short, none)
+
+      pub read-runs : 0 < slots → readOf plan run slots room ≡ runOf plan run slots room
+      unfolding readOf
+      read-runs some = rw (eq-eqb (planJudged plan .number) DONE good, le-leb (length run) 65535 short, lt-ltb 0 slots some)
+
+-- records that fit are the front of the tree that they are stored in
+pub front : (tree records : List ℕ) → length records ≤ length tree → take (length records) (sets tree 0 records) ≡ records
+front tree records fits =
+    let within : 0 + length records ≤ length tree = omega arith in
+    ap (λ (l : List ℕ). take (length records) l) (sets-eq records tree 0 within) ∙ take-at records (drop (0 + length records) tree) (length records) refl
+
+-- what is left of a tree's room, cleared
+pub rest-cleared : (tree rest : List ℕ) (n : ℕ) → n ≤ length tree → rest ≡ zeros (length (midOf n (length tree - n) tree))
+    → putMid n (length tree - n) tree rest ≡ take n tree ++ zeros (length tree - n)
+rest-cleared tree rest n within is =
+    ap (λ (l : List ℕ). take n tree ++ l)
+    (ap₂ _++_ (is ∙ ap zeros (mid-len n (length tree) tree (omega arith))) (post-is n (length tree) tree within ∙ drop-length tree) ∙ append-nil (zeros (length tree - n)))
+
+module _ (p : Plan) where
+  pub settled-same : {tree : List ℕ} {size : ℕ} {answer : Answer} {e : Ended} → length (e .tree) ≡ length tree → Ends p tree 0 size answer e
+      → settledOf (e .reading) (e .tree) ≡ outcomeOf p size (length tree) answer
+  unfolding settledOf outcomeOf acceptedOf
+  settled-same {tree} {size} room (as-accepted records reads stored) =
+      rw (reads, zero-add (length records), stored, length-sets tree 0 records) (by-room (leb (length records) (length tree)) refl)
+    where
+      by-room : (fits : Bool) → leb (length records) (length tree) ≡ fits
+          → cond fits (outcome (answered DONE size (length records) 0) (take (length records) (sets tree 0 records) ++ zeros (length tree - length records)))
+          (bare (length tree) (answered NO-ROOM 0 (length records) 0))
+          ≡ cond fits (outcome (answered DONE size (length records) 0) (records ++ zeros (length tree - length records)))
+          (bare (length tree) (answered NO-ROOM 0 (length records) 0))
+      by-room true e = rw (front tree records (leb-true _ _ e)) refl
+      by-room false e = refl
+  settled-same room (as-deep-at e) = rw (e, room)
+  settled-same room (as-unknown-at e) = rw (e, room)
+  settled-same room (as-unexpected-at e) = rw (e, room)
+  settled-same room (as-end-at e) = rw (e, room)
+  settled-same room (as-runaway-at e) = rw (e, room)
+
+-- a run begins with the start node held, in the first slot
+module _ (plan run held tree : List ℕ) (good : planJudged plan .number ≡ DONE) (some : 0 < length held) where
+  pub started : Held (planCount plan) (length held) (set held 0 (planStart plan)) 1
+  started =
+      record { long = length-set held 0 (planStart plan); few = some; below = λ i under. only i (omega arith) }
+    where
+      first : getD (set held 0 (planStart plan)) 0 0 < planCount plan
+      first = rw (getD-set-same held 0 (planStart plan) 0 some) (done plan good .formed-is .start-below)
+
+      only : (i : ℕ) → i ≡ 0 → getD (set held 0 (planStart plan)) i 0 < planCount plan
+      only i is = rw is first
+
+  -- the run's end, settled, is the outcome of the run
+  pub run-same : (e : Ended) → e ≡ readsOf (planOf plan (λ n. ltb n (length held))) 0 run 1 0 (set held 0 (planStart plan)) tree → length (e .tree) ≡ length tree
+      → settledOf (e .reading) (e .tree) ≡ runOf plan run (length held) (length tree)
+  unfolding runOf reading stack planFrom
+  run-same e is room = settled-same (planOf plan (λ n. ltb n (length held))) room ends
+    where
+      ends : Ends (planOf plan (λ n. ltb n (length held))) tree 0 (length run) (reads (planOf plan (λ n. ltb n (length held))) 0 (planStart plan ∷ []) run) e
+      ends =
+          rw is
+          (rw (zero-add, getD-set-same) at
+          (reads-same (planOf plan (λ n. ltb n (length held))) (length held) (plan-bounded (runnable plan good) (length held)) 0 run 1 0 (set held 0 (planStart plan)) tree started))

@@ -1,0 +1,29 @@
+-- `reader::read` meets its contract: the answer is the reading's, and the slots are cleared.
+use mathlib.Core.Path.{ap, _∙_}
+use borrow.Author.Needs.{needs}
+use Rattle.words.specs.Words.{zeros}
+use Rattle.reader.proofs.read.Statement.{statement}
+use Rattle.reader.proofs.read.Tie as tie
+
+answer-requires : tie.Need-answer-requires
+answer-requires c κs = search needs
+
+clear-records-requires : tie.Need-clear-records-requires
+clear-records-requires c κs = search needs
+
+same-length : tie.Need-same-length
+same-length c = search needs
+
+same-length-2 : tie.Need-same-length-2
+same-length-2 c = search needs
+
+returns : tie.Need-returns
+returns c =
+    record {
+      outcome-is = c .before .before .before .before .before .before .before .before .answer .ensures;
+      slots-zero = c .before .before .clear-records .ensures ∙ ap zeros (c .before .before .before .before .before .before .before .before .answer .kept .1 .1 .0);
+    }
+
+pub read-spec : {M : Type 1} → statement M
+read-spec =
+    tie.close (tie.spec answer-requires clear-records-requires same-length same-length-2 returns)

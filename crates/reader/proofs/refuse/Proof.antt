@@ -1,0 +1,19 @@
+-- `reader::refuse` meets its contract.
+use borrow.Author.Needs.{needs}
+use mathlib.Core.Path.{ap}
+use Prim.Native.Nat.{ℕ}
+use Rattle.reader.specs.Machine.{answered}
+use Rattle.reader.proofs.refuse.Statement.{statement}
+use Rattle.reader.proofs.refuse.Tie as tie
+
+cast-t8 : tie.Need-cast-t8
+cast-t8 c = search needs
+
+expected-at-requires : tie.Need-expected-at-requires
+expected-at-requires c κs = search needs
+
+returns : tie.Need-returns
+returns c = ap (λ (kinds : ℕ). answered (c .before .before .args .number) (c .before .before .args .at) 0 kinds) (c .expected-at .ensures)
+
+pub refuse-spec : {M : Type 1} → statement M
+refuse-spec = tie.close (tie.spec cast-t8 expected-at-requires returns)

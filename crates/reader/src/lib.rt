@@ -1,0 +1,449 @@
+// The reader: runs a plan over a run of events, numbers 8 to 16.
+ghost use mathlib.Core.Path.{_≡_};
+ghost use Prim.Native.Nat.{_+_, _*_, _-_, _≤_, _<_};
+ghost use lib.ListN.{length, set};
+ghost use Rattle.book.specs.Decode.{leftAt, rightAt};
+ghost use Rattle.plan.specs.Running.{rowFirst};
+ghost use Rattle.plan.specs.Form.{planNodesAt, cellAt, planJudged};
+ghost use Rattle.reader.specs.Machine.{after, ended, answered, lastOf, expectedOf, walkOf, eventOf, finishOf, closeOf, readsOf, told, refusal};
+ghost use Rattle.reader.specs.Ready.{onSlots, Runnable, Ready};
+ghost use Rattle.reader.specs.Reads.{Reads, outcome, bare, runOf, readOf};
+ghost use Rattle.reader.specs.Settled.{settledOf};
+use book::DONE;
+use kinds::single;
+use plan::NODES_AT;
+use plan::SETTINGS_AT;
+use plan::judge;
+use words::clear_records;
+use words::u16_at;
+use words::wide;
+
+// The answers' numbers.
+pub const LONG: u32 = 10;
+
+pub const DEEP: u32 = 11;
+
+pub const UNKNOWN: u32 = 12;
+
+pub const UNEXPECTED: u32 = 13;
+
+pub const END: u32 = 14;
+
+pub const RUNAWAY: u32 = 15;
+
+pub const NO_ROOM: u32 = 16;
+
+// The most events of a run.
+pub const MOST_EVENTS: usize = 65535;
+
+// What is added to a node's number in an empty record.
+pub const EMPTY: usize = 32768;
+
+// How the machine stands: the answer's number, 0 where it may go on; how many parts are held; how many records are written.
+pub struct Spot {
+    pub number: u32,
+    pub count: usize,
+    pub written: usize,
+}
+
+// What a reading answers.
+#[repr(C)]
+pub struct Reading {
+    pub number: u32,
+    pub place: u32,
+    pub records: u32,
+    pub expected: u64,
+}
+
+// The cell of a node's row in a column.
+fn cell_at(plan: &[u8], nodes: usize, kinds: usize, node: usize, column: usize) -> usize
+    requires { ⌜ (Runnable (now plan) nodes kinds) × (node < nodes) × (column ≤ kinds) ⌝ }
+    ensures { λ r. ⌜ (r ≡ cellAt (now (plan .entry)) nodes kinds node column) × (r < 256) ⌝ }
+{
+    wide(plan[NODES_AT + 6 * nodes + node * (kinds + 1) + column])
+}
+
+// The left of a node.
+fn left_at(plan: &[u8], node: usize) -> usize
+    requires { ⌜ (30 + 6 * node ≤ length (now plan)) × (node < 512) ⌝ }
+    ensures { λ r. ⌜ r ≡ leftAt (now (plan .entry)) planNodesAt node ⌝ }
+{
+    u16_at(plan, NODES_AT + 6 * node + 2)
+}
+
+// The right of a node.
+fn right_at(plan: &[u8], node: usize) -> usize
+    requires { ⌜ (30 + 6 * node ≤ length (now plan)) × (node < 512) ⌝ }
+    ensures { λ r. ⌜ r ≡ rightAt (now (plan .entry)) planNodesAt node ⌝ }
+{
+    u16_at(plan, NODES_AT + 6 * node + 4)
+}
+
+// Writes a record, where the tree has room for it.
+fn note(tree: &mut [u16], at: usize, value: usize)
+    requires { ⌜ value < 65536 ⌝ }
+    ensures { λ _. ⌜ now (tree .exit) ≡ set (now (tree .entry)) at value ⌝ }
+{
+    if at < tree.len() {
+        tree[at] = value as u16;
+    }
+}
+
+// The walk from a node: each visited node writes a record, then its cell says how to go on.
+fn walk(
+    plan: &[u8],
+    nodes: usize,
+    kinds: usize,
+    kind: usize,
+    from: usize,
+    count: usize,
+    written: usize,
+    held: &mut [u16],
+    tree: &mut [u16],
+) -> Spot
+    requires { ⌜ (Ready (now plan) nodes kinds count written (now held)) × (kind < kinds) × (from < nodes) ⌝ }
+    ensures { λ r. ⌜ after r (now (held .exit)) (now (tree .exit)) ≡ walkOf (onSlots (now (plan .entry)) nodes kinds (length (now (held .entry)))) kind nodes from count written (now (held .entry)) (now (tree .entry)) ⌝ }
+{
+    let mut visits = 0;
+    let mut node = from;
+    let mut parts = count;
+    let mut records = written;
+    while visits < nodes {
+        visits += 1;
+        note(tree, records, node);
+        records += 1;
+        match cell_at(plan, nodes, kinds, node, kind) {
+            1 => {
+                return Spot {
+                    number: DONE,
+                    count: parts,
+                    written: records,
+                };
+            }
+            2 => {
+                node = left_at(plan, node);
+            }
+            3 => {
+                if held.len() <= parts {
+                    return Spot {
+                        number: DEEP,
+                        count: parts,
+                        written: records,
+                    };
+                }
+                held[parts] = right_at(plan, node) as u16;
+                parts += 1;
+                node = left_at(plan, node);
+            }
+            4 => {
+                note(tree, records, left_at(plan, node) + EMPTY);
+                records += 1;
+                node = right_at(plan, node);
+            }
+            5 => {
+                node = right_at(plan, node);
+            }
+            _ => {
+                return Spot {
+                    number: UNEXPECTED,
+                    count: parts,
+                    written: records,
+                };
+            }
+        }
+    }
+    Spot {
+        number: RUNAWAY,
+        count: parts,
+        written: records,
+    }
+}
+
+// One event: the part held last is taken off, until one walks or the event is refused.
+pub fn event(
+    plan: &[u8],
+    nodes: usize,
+    kinds: usize,
+    kind: usize,
+    count: usize,
+    written: usize,
+    held: &mut [u16],
+    tree: &mut [u16],
+) -> Spot
+    requires { ⌜ Ready (now plan) nodes kinds count written (now held) ⌝ }
+    ensures { λ r. ⌜ after r (now (held .exit)) (now (tree .exit)) ≡ eventOf (onSlots (now (plan .entry)) nodes kinds (length (now (held .entry)))) kind count written (now (held .entry)) (now (tree .entry)) ⌝ }
+{
+    if kinds <= kind {
+        return Spot {
+            number: UNKNOWN,
+            count: count,
+            written: written,
+        };
+    }
+    let mut parts = count;
+    let mut records = written;
+    while 0 < parts {
+        parts -= 1;
+        let node = held[parts] as usize;
+        if cell_at(plan, nodes, kinds, node, kind) != 0 {
+            return walk(plan, nodes, kinds, kind, node, parts, records, held, tree);
+        }
+        if cell_at(plan, nodes, kinds, node, kinds) != 1 {
+            return Spot {
+                number: UNEXPECTED,
+                count: parts,
+                written: records,
+            };
+        }
+        note(tree, records, node + EMPTY);
+        records += 1;
+    }
+    Spot {
+        number: UNEXPECTED,
+        count: 0,
+        written: records,
+    }
+}
+
+// The end: all held parts are taken off in turn.
+fn finish(
+    plan: &[u8],
+    nodes: usize,
+    kinds: usize,
+    count: usize,
+    written: usize,
+    held: &[u16],
+    tree: &mut [u16],
+) -> Spot
+    requires { ⌜ Ready (now plan) nodes kinds count written (now held) ⌝ }
+    ensures { λ r. ⌜ after r (now (held .entry)) (now (tree .exit)) ≡ finishOf (onSlots (now (plan .entry)) nodes kinds (length (now (held .entry)))) count written (now (held .entry)) (now (tree .entry)) ⌝ }
+{
+    let mut parts = count;
+    let mut records = written;
+    while 0 < parts {
+        parts -= 1;
+        let node = held[parts] as usize;
+        if cell_at(plan, nodes, kinds, node, kinds) != 1 {
+            return Spot {
+                number: END,
+                count: parts,
+                written: records,
+            };
+        }
+        note(tree, records, node + EMPTY);
+        records += 1;
+    }
+    Spot {
+        number: DONE,
+        count: 0,
+        written: records,
+    }
+}
+
+// The kinds of a node's row whose cells are not 0.
+fn row_first(plan: &[u8], nodes: usize, kinds: usize, node: usize) -> u64
+    requires { ⌜ (Runnable (now plan) nodes kinds) × (node < nodes) ⌝ }
+    ensures { λ r. ⌜ r ≡ rowFirst (onSlots (now (plan .entry)) nodes kinds 0) node kinds ⌝ }
+{
+    let mut first = 0;
+    let mut kind = 0;
+    while kind < kinds {
+        if cell_at(plan, nodes, kinds, node, kind) != 0 {
+            first += single(kind);
+        }
+        kind += 1;
+    }
+    first
+}
+
+// The part held last; 0 where none is held.
+fn last_part(held: &[u16], count: usize) -> usize
+    requires { ⌜ count ≤ length (now held) ⌝ }
+    ensures { λ r. ⌜ r ≡ lastOf (now (held .entry)) count ⌝ }
+{
+    if count == 0 {
+        return 0;
+    }
+    held[count - 1] as usize
+}
+
+// The kinds that a refusal tells, where so many parts were held, this one last.
+fn expected_at(
+    plan: &[u8],
+    nodes: usize,
+    kinds: usize,
+    number: u32,
+    count: usize,
+    last: usize,
+) -> u64
+    requires { ⌜ (Runnable (now plan) nodes kinds) × (last < nodes) ⌝ }
+    ensures { λ r. ⌜ r ≡ told number (expectedOf (onSlots (now (plan .entry)) nodes kinds 0) count last) ⌝ }
+{
+    if number == DEEP {
+        return 0;
+    }
+    if number == RUNAWAY {
+        return 0;
+    }
+    if count == 0 {
+        return 0;
+    }
+    row_first(plan, nodes, kinds, last)
+}
+
+// A refusal at a place, where so many parts were held, this one last.
+fn refuse(
+    plan: &[u8],
+    nodes: usize,
+    kinds: usize,
+    number: u32,
+    at: usize,
+    count: usize,
+    last: usize,
+) -> Reading
+    requires { ⌜ (Runnable (now plan) nodes kinds) × (last < nodes) × (at < 65536) ⌝ }
+    ensures { λ r. ⌜ r ≡ refusal number at (expectedOf (onSlots (now (plan .entry)) nodes kinds 0) count last) ⌝ }
+{
+    Reading {
+        number: number,
+        place: at as u32,
+        records: 0,
+        expected: expected_at(plan, nodes, kinds, number, count, last),
+    }
+}
+
+// The end of a run, at a place.
+fn close(
+    plan: &[u8],
+    nodes: usize,
+    kinds: usize,
+    at: usize,
+    count: usize,
+    written: usize,
+    held: &[u16],
+    tree: &mut [u16],
+) -> Reading
+    requires { ⌜ (Ready (now plan) nodes kinds count written (now held)) × (at < 65536) ⌝ }
+    ensures { λ r. ⌜ ended r (now (held .entry)) (now (tree .exit)) ≡ closeOf (onSlots (now (plan .entry)) nodes kinds (length (now (held .entry)))) at count written (now (held .entry)) (now (tree .entry)) ⌝ }
+{
+    let last = last_part(held, count);
+    let spot = finish(plan, nodes, kinds, count, written, held, tree);
+    if spot.number != DONE {
+        return refuse(plan, nodes, kinds, spot.number, at, count, last);
+    }
+    Reading {
+        number: DONE,
+        place: at as u32,
+        records: spot.written as u32,
+        expected: 0,
+    }
+}
+
+// The run: each event in turn, then the end.
+fn events(
+    plan: &[u8],
+    nodes: usize,
+    kinds: usize,
+    run: &[u8],
+    held: &mut [u16],
+    tree: &mut [u16],
+) -> Reading
+    requires { ⌜ (Ready (now plan) nodes kinds 1 0 (now held)) × (length (now run) ≤ 65535) ⌝ }
+    ensures { λ r. ⌜ ended r (now (held .exit)) (now (tree .exit)) ≡ readsOf (onSlots (now (plan .entry)) nodes kinds (length (now (held .entry)))) 0 (now (run .entry)) 1 0 (now (held .entry)) (now (tree .entry)) ⌝ }
+{
+    let mut at = 0;
+    let mut count = 1;
+    let mut written = 0;
+    while at < run.len() {
+        let last = last_part(held, count);
+        let spot = event(
+            plan,
+            nodes,
+            kinds,
+            wide(run[at]),
+            count,
+            written,
+            held,
+            tree,
+        );
+        if spot.number != DONE {
+            return refuse(plan, nodes, kinds, spot.number, at, count, last);
+        }
+        count = spot.count;
+        written = spot.written;
+        at += 1;
+    }
+    close(plan, nodes, kinds, at, count, written, held, tree)
+}
+
+// A refusal before any event: the tree is cleared.
+fn refuse_all(number: u32, place: u32, tree: &mut [u16]) -> Reading
+    ensures { λ r. ⌜ outcome r (now (tree .exit)) ≡ bare (length (now (tree .entry))) (answered number place 0 0) ⌝ }
+{
+    clear_records(tree);
+    Reading {
+        number: number,
+        place: place,
+        records: 0,
+        expected: 0,
+    }
+}
+
+// The answer settled: the tree's rest is cleared, or all of it at a refusal and where the records are more than its room.
+fn settle(answer: Reading, tree: &mut [u16]) -> Reading
+    ensures { λ r. ⌜ outcome r (now (tree .exit)) ≡ settledOf answer (now (tree .entry)) ⌝ }
+{
+    if answer.number != DONE {
+        clear_records(tree);
+        return answer;
+    }
+    let records = answer.records as usize;
+    if tree.len() < records {
+        clear_records(tree);
+        return Reading {
+            number: NO_ROOM,
+            place: 0,
+            records: answer.records,
+            expected: 0,
+        };
+    }
+    clear_records(&mut tree[records..]);
+    answer
+}
+
+// The run by a plan that is judged done, with a slot at least.
+fn run_plan(plan: &[u8], run: &[u8], held: &mut [u16], tree: &mut [u16]) -> Reading
+    requires { ⌜ (planJudged (now plan) .number ≡ 0) × (length (now run) ≤ 65535) × (0 < length (now held)) ⌝ }
+    ensures { λ r. ⌜ outcome r (now (tree .exit)) ≡ runOf (now (plan .entry)) (now (run .entry)) (length (now (held .entry))) (length (now (tree .entry))) ⌝ }
+{
+    let nodes = u16_at(plan, 12) / 6;
+    let kinds = u16_at(plan, SETTINGS_AT);
+    held[0] = u16_at(plan, SETTINGS_AT + 2) as u16;
+    settle(events(plan, nodes, kinds, run, held, tree), tree)
+}
+
+// The answer, by each test in turn, with the records in the tree.
+fn answer(plan: &[u8], run: &[u8], held: &mut [u16], tree: &mut [u16]) -> Reading
+    ensures { λ r. ⌜ outcome r (now (tree .exit)) ≡ readOf (now (plan .entry)) (now (run .entry)) (length (now (held .entry))) (length (now (tree .entry))) ⌝ }
+{
+    let form = judge(plan);
+    if form.number != DONE {
+        return refuse_all(form.number, form.place, tree);
+    }
+    if MOST_EVENTS < run.len() {
+        return refuse_all(LONG, 0, tree);
+    }
+    if held.len() == 0 {
+        return refuse_all(DEEP, 0, tree);
+    }
+    run_plan(plan, run, held, tree)
+}
+
+// Reads a run by a plan: the answer, with the records in the tree; the slots are zero after every call.
+pub fn read(plan: &[u8], run: &[u8], held: &mut [u16], tree: &mut [u16]) -> Reading
+    ensures { λ r. ⌜ Reads (now (plan .entry)) (now (run .entry)) (now (held .entry)) (now (tree .entry)) r (now (held .exit)) (now (tree .exit)) ⌝ }
+{
+    let reading = answer(plan, run, held, tree);
+    clear_records(held);
+    reading
+}

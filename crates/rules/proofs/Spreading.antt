@@ -1,0 +1,158 @@
+-- Marks that spread from marked nodes to their children: each stands for a reachable node, and where none is new, all of those are marked.
+use Prim.Native.Nat.{ℕ, _+_, _*_, _/_, _%_, _≤_, _<_}
+use mathlib.Core.Path.{_≡_, refl, sym, _∙_, subst}
+use mathlib.Core.Bool.{Bool, true, false, _||_}
+use mathlib.Core.List.{List}
+use mathlib.Core.Logic.{_⊎_, inl, inr, ⊎-elim}
+use native.Mathlib.Omega.{arith}
+use lib.ListN.{length, getD}
+use Rattle.kinds.specs.Kinds.{Has, has?}
+use Rattle.kinds.proofs.Laws.{none, has-single, has?-is}
+use Rattle.book.specs.Book.{Proper}
+use Rattle.book.specs.Decode.{nodeAt, nodes, GoodNodes}
+use Rattle.book.specs.declared.Node.{Node}
+use Rattle.book.specs.declared.Node.the-variants.{Fail, Empty, Token, Either, Then, Tagged, Ref}
+use Rattle.rules.specs.Rules.{Child, either-left, either-right, then-left, then-right, tagged-left, ref-left, Reach, r-start, r-child}
+use Rattle.rules.specs.Facts.{Marked, Reached}
+use Rattle.rules.specs.Growth.{Sound, Blank, Joined, Grown, Turned}
+use Rattle.rules.specs.Step.{leftFrom, rightFrom, markOf, ReachAt, ChildClosed, Spread}
+use Rattle.rules.proofs.Growing.{or-false, grown-then, grown-sound, blank-sound, joined-grown, joined-has, joined-held}
+use Rattle.rules.proofs.Reading.{left-below, right-below, node-is, left-inside, right-inside}
+
+-- ---- marks
+
+-- the set of one place or none has that place if it is told to
+mark-has : (marked : Bool) (n k : ℕ) → Has (markOf marked (n % 64)) k → (marked ≡ true) × (k ≡ n % 64)
+mark-has true n k has = (refl, has-single k (n % 64) .0 has)
+mark-has false n k has = absurd (none has)
+
+module _ {before after : List ℕ} {n : ℕ} {marked changed : Bool} (inside : n / 64 < length before)
+    (joined : Joined before after (n / 64) (markOf marked (n % 64)) changed) where
+  -- a mark set on a reachable node is growth by reaching
+  pub mark-grown : {node : ℕ → Node} {start : ℕ} → (marked ≡ true → Reach node start n) → Grown (ReachAt node start) before after changed
+  mark-grown {node} {start} reach = joined-grown inside joined by
+    where
+      by : (k : ℕ) → Has (markOf marked (n % 64)) k → ReachAt node start (n / 64) k
+      by k has =
+          let (told, place) = mark-has marked n k has in
+          let whole : 64 * (n / 64) + k ≡ n = omega arith in
+          record { reach = rw whole (reach told) }
+
+  -- where a mark is not new, it was there
+  pub mark-held : marked ≡ true → changed ≡ false → Marked before n
+  mark-held told unchanged = record { mark = joined-held inside joined unchanged (n % 64) (rw told (has-single (n % 64) (n % 64) .1 refl)) }
+
+-- blank marks with the start marked are sound, and have the start
+module _ {before after : List ℕ} {start : ℕ} {changed : Bool} (blank : Blank 8 before) (few : start < 512)
+    (joined : Joined before after (start / 64) (markOf true (start % 64)) changed) where
+  start-in : start / 64 < length before
+  start-in = omega (arith, blank .long)
+
+  pub start-sound : {node : ℕ → Node} → Sound (ReachAt node start) after
+  start-sound = grown-sound (mark-grown {marked = true} start-in joined (λ told. r-start)) (blank-sound blank)
+
+  pub start-marked : Marked after start
+  start-marked = record { mark = joined-has start-in joined (start % 64) (has-single (start % 64) (start % 64) .1 refl) }
+
+marked-reach : {node : ℕ → Node} {start : ℕ} {marks : List ℕ} {n : ℕ} → Sound (ReachAt node start) marks → Marked marks n → Reach node start n
+marked-reach {node} {start} {marks} {n} sound marked =
+    let whole : 64 * (n / 64) + n % 64 ≡ n = omega arith in
+    rw whole at (sound .by (n / 64) (n % 64) (marked .mark) .reach)
+
+-- ---- children
+
+-- a child is the left or the right
+child-side : {at : Node} {m : ℕ} (n : ℕ) → Child at m → (leftFrom n at ≡ m) ⊎ (rightFrom n at ≡ m)
+child-side n either-left = inl refl
+child-side n either-right = inr refl
+child-side n then-left = inl refl
+child-side n then-right = inr refl
+child-side n tagged-left = inl refl
+child-side n ref-left = inl refl
+
+module _ {node : ℕ → Node} {start n : ℕ} (reach : Reach node start n) where
+  child-of : {at : Node} {m : ℕ} → node n ≡ at → Child at m → Reach node start m
+  child-of {at} {m} is child = r-child reach (subst (λ (a : Node). Child a m) (sym is) child)
+
+  -- the left of a reachable node, or the node itself where it has none, is reachable, and so is the right
+  reach-left : (at : Node) → node n ≡ at → Reach node start (leftFrom n at)
+  reach-left Fail is = reach
+  reach-left Empty is = reach
+  reach-left (Token k) is = reach
+  reach-left (Either l r) is = child-of is either-left
+  reach-left (Then l r) is = child-of is then-left
+  reach-left (Tagged l t) is = child-of is tagged-left
+  reach-left (Ref l) is = child-of is ref-left
+
+  reach-right : (at : Node) → node n ≡ at → Reach node start (rightFrom n at)
+  reach-right Fail is = reach
+  reach-right Empty is = reach
+  reach-right (Token k) is = reach
+  reach-right (Either l r) is = child-of is either-right
+  reach-right (Then l r) is = child-of is then-right
+  reach-right (Tagged l t) is = reach
+  reach-right (Ref l) is = reach
+
+-- a node that was read, whose left and right have been marked if it is marked
+module _ {bytes : List ℕ} {base count n l r : ℕ} {at : Node} {before between after : List ℕ} {marked c d : Bool}
+    (good : GoodNodes bytes base count 64) (below : n < count) (read : at ≡ nodeAt bytes base n) (room : 8 ≤ length before)
+    (marked-is : marked ≡ has? (getD before (n / 64) 0) (n % 64)) (l-is : l ≡ leftFrom n at)
+    (left : Joined before between (l / 64) (markOf marked (l % 64)) c) (r-is : r ≡ rightFrom n at)
+    (right : Joined between after (r / 64) (markOf marked (r % 64)) d) where
+  is : nodes bytes base count n ≡ at
+  is = sym (node-is good below read)
+
+  l-in : l / 64 < length before
+  l-in = omega (arith, left-inside good below read, good .few-nodes)
+
+  module _ (start : ℕ) (sound : Sound (ReachAt (nodes bytes base count) start) before) where
+    reach-here : marked ≡ true → Reach (nodes bytes base count) start n
+    reach-here told = marked-reach sound (record { mark = has?-is _ _ .0 (sym marked-is ∙ told) })
+
+    first : Grown (ReachAt (nodes bytes base count) start) before between c
+    first = mark-grown l-in left (λ told. rw l-is (reach-left (reach-here told) at is))
+
+    r-in : r / 64 < length between
+    r-in = omega (arith, right-inside good below read, good .few-nodes, first .long)
+
+    second : Grown (ReachAt (nodes bytes base count) start) between after d
+    second = mark-grown r-in right (λ told. rw r-is (reach-right (reach-here told) at is))
+
+    closed : (c || d) ≡ false → (m : ℕ) → Child (nodes bytes base count n) m → Marked before n → Marked before m
+    closed unchanged m child here =
+        let told : marked ≡ true = marked-is ∙ has?-is _ _ .1 (here .mark) in
+        let (e, f) = or-false c d unchanged in
+        ⊎-elim
+        (λ same. subst (Marked before) (l-is ∙ same) (mark-held l-in left told e))
+        (λ same. subst (Marked before) (r-is ∙ same) (rw (first .still e) at (mark-held r-in right told f)))
+        (child-side n (rw is at child))
+
+  pub children-spread : Spread (nodes bytes base count) n before after (c || d)
+  children-spread = record {
+    from = λ start sound. record {
+      grown = grown-then (first start sound) (second start sound);
+      closed = λ unchanged. record { children = closed start sound unchanged };
+    };
+  }
+
+-- ---- all reachable nodes
+
+child-below : {kinds count n m : ℕ} {at : Node} → n < count → Proper kinds count n at → Child at m → m < count
+child-below {n = n} below proper child =
+    ⊎-elim (λ same. rw same at (left-below below proper)) (λ same. rw same at (right-below below proper)) (child-side n child)
+
+module _ {node : ℕ → Node} {kinds start count : ℕ} (proper : (n : ℕ) → n < count → Proper kinds count n (node n)) (start-below : start < count) where
+  -- reachable nodes are below the count
+  pub reach-below : {n : ℕ} → Reach node start n → n < count
+  reach-below r-start = start-below
+  reach-below (r-child reach child) = child-below (reach-below reach) (proper _ (reach-below reach)) child
+
+  -- after a turn over sound marks that changed nothing, the reachable nodes are marked
+  pub turned-reached : {before after : List ℕ} {changed : Bool} → Sound (ReachAt node start) before → Marked before start
+      → Turned (ReachAt node start) (ChildClosed node) count before after changed → changed ≡ false → Reached node start count after
+  turned-reached {before} {after} sound started turned unchanged =
+      rw (turned .grown .still unchanged) (record { reach-is = λ n below. (marked-reach sound, marked) })
+    where
+      marked : {n : ℕ} → Reach node start n → Marked before n
+      marked r-start = started
+      marked (r-child {n = n} {m = m} reach child) = turned .closed unchanged n (reach-below reach) .children m child (marked reach)

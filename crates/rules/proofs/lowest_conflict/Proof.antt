@@ -1,0 +1,50 @@
+-- `rules::lowest_conflict` meets its contract. The loop's invariant: no marked node passed has a conflict. The measure is what is left of the
+-- count.
+use Prim.Native.Nat.{_-_}
+use borrow.Author.Needs.{needs}
+use Rattle.book.specs.Decode.{nodes}
+use Rattle.rules.specs.Facts.{Marked}
+use Rattle.rules.proofs.Reports.{Clear, clear-none, clear-more, clear-found, clear-all}
+use Rattle.rules.proofs.lowest_conflict.Statement.{statement}
+use Rattle.rules.proofs.lowest_conflict.Tie as tie
+
+abbrev Inv-loop : tie.InvT-loop
+Inv-loop book base count table marks n₀ n = Clear (nodes book base count) (Marked marks) count n
+
+abbrev μ-loop : tie.MeasureT-loop
+μ-loop book base count table marks n₀ n = count - n
+
+loop-holds : tie.Need-loop-holds Inv-loop μ-loop
+loop-holds c = clear-none
+
+conflicting-requires : tie.Need-conflicting-requires Inv-loop μ-loop
+conflicting-requires c κs = search needs
+
+returns : tie.Need-returns Inv-loop μ-loop
+returns c = clear-found (c .before .before .before .loop .inv) (c .before .conflicting .ensures) (c .if1 .taken)
+
+add-n : tie.Need-add-n Inv-loop μ-loop
+add-n c = search needs
+
+loop-less : tie.Need-loop-less Inv-loop μ-loop
+loop-less c = search needs
+
+loop-again : tie.Need-loop-again Inv-loop μ-loop
+loop-again c = clear-more (c .before .before .before .loop .inv) (c .before .before .loop-test .taken) (c .before .conflicting .ensures) (c .if1 .left)
+
+returns-2 : tie.Need-returns-2 Inv-loop μ-loop
+returns-2 c = clear-all (c .before .loop .inv) (c .loop-test .left)
+
+pub lowest-conflict-spec : {M : Type 1} → statement M
+lowest-conflict-spec =
+    tie.close
+    (tie.spec
+    Inv-loop
+    μ-loop
+    loop-holds
+    conflicting-requires
+    returns
+    add-n
+    loop-less
+    loop-again
+    returns-2)

@@ -1,0 +1,1 @@
+// The worked table of document 01.
