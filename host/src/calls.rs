@@ -93,8 +93,7 @@ pub struct Lender {
 
 impl Lender {
     /// Memory enough for every call that is tried.
-    #[allow(clippy::new_without_default)]
-    pub fn new() -> Lender {
+    pub fn ample() -> Lender {
         Lender {
             bytes: Sealed::new(LONGEST_BYTES),
             run: Sealed::new(LONGEST_RUN),

@@ -31,7 +31,7 @@ impl Pair {
     /// A pair that has compared nothing yet.
     fn new() -> Pair {
         Pair {
-            lender: Lender::new(),
+            lender: Lender::ample(),
             tally: Tally::default(),
             both_nullable: 0,
             shared: 0,

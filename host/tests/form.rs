@@ -24,7 +24,7 @@ impl Pair {
     /// A pair that has compared nothing yet.
     fn new() -> Pair {
         Pair {
-            lender: Lender::new(),
+            lender: Lender::ample(),
             tally: Tally::default(),
         }
     }

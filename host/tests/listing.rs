@@ -66,7 +66,11 @@ fn with_length(length: usize, rest: usize) -> Vec<u8> {
 fn worked_listings() {
     let program = Program::under_test();
     for delivery in DELIVERIES {
-        worked::check_listing(|input| program.run(input, delivery).output);
+        worked::check_listing(|input| {
+            let printed = program.run(input, delivery);
+            assert_eq!(printed.status, Some(0), "the exit status of {input:?}");
+            printed.output
+        });
     }
 }
 

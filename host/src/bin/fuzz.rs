@@ -124,7 +124,7 @@ fn tested(names: &[Name]) -> Tested {
 /// Runs the cases until one fails or all are done; whether none failed.
 fn run(options: &Options, tested: &Tested, progress: &Progress) -> bool {
     let begun = Instant::now();
-    let mut lender = Lender::new();
+    let mut lender = Lender::ample();
     for number in options.first..options.first.saturating_add(options.cases) {
         if begun.elapsed() >= options.time {
             break;
@@ -179,7 +179,11 @@ impl Progress {
 /// Prints the case that failed, the smallest that still does, and both answers to that.
 fn report(options: &Options, tested: &Tested, number: u64) {
     let seed = options.seed;
-    println!("FAILED: case {number}; again: --seed {seed} --first {number} --cases 1");
+    let calls: Vec<String> = options.names.iter().map(Name::to_string).collect();
+    let calls = calls.join(",");
+    println!(
+        "FAILED: case {number}; again: --seed {seed} --first {number} --cases 1 --calls {calls}"
+    );
     let mut fails = |case: &Case| alone(case, tested, false) != Ended::Well;
     let begun = Instant::now();
     let failed = (number..number.saturating_add(LOOKED_AT))
@@ -202,7 +206,7 @@ fn report(options: &Options, tested: &Tested, number: u64) {
 fn alone(case: &Case, tested: &Tested, show: bool) -> Ended {
     in_child(|| {
         end_after(PATIENCE);
-        let given = case.given(tested, &mut Lender::new());
+        let given = case.given(tested, &mut Lender::ample());
         if show {
             print!("given: {given}");
         }
