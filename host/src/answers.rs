@@ -18,8 +18,14 @@ pub const END: u32 = 14;
 pub const RUNAWAY: u32 = 15;
 pub const NO_ROOM: u32 = 16;
 
-/// How many answer numbers there are.
-pub const NUMBERS: usize = 17;
+/// Stands beside the answer numbers for the listing program's message that its input is too long.
+pub const INPUT_TOO_LONG: u32 = 17;
+
+/// Stands beside the answer numbers for the listing program's message that its input is too short.
+pub const INPUT_TOO_SHORT: u32 = 18;
+
+/// How many answers are told apart.
+pub const ANSWERS: usize = 19;
 
 /// The kind given where both sides of an either are nullable.
 pub const BOTH_NULLABLE: u32 = 255;
@@ -58,7 +64,7 @@ pub struct Reading {
 /// How often each answer number was given.
 #[derive(Default)]
 pub struct Tally {
-    counts: [usize; NUMBERS],
+    counts: [usize; ANSWERS],
 }
 
 impl Tally {

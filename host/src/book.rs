@@ -14,11 +14,26 @@ pub const MOST_NODES: usize = 512;
 /// The most kinds that a book has.
 pub const MOST_KINDS: usize = 64;
 
+/// Where the settings stand in a book.
+pub const BOOK_SETTINGS: usize = 14;
+
 /// Where the nodes begin in a book.
 pub const BOOK_NODES: usize = 18;
 
+/// Where the settings stand in a plan.
+pub const PLAN_SETTINGS: usize = 20;
+
+/// Where the nodes begin in a plan.
+pub const PLAN_NODES: usize = 24;
+
 /// The bytes of one node.
 pub const NODE_BYTES: usize = 6;
+
+/// The bytes of the longest book.
+pub const LONGEST_BOOK: usize = BOOK_NODES + NODE_BYTES * MOST_NODES;
+
+/// The bytes of the longest plan.
+pub const LONGEST_PLAN: usize = PLAN_NODES + MOST_NODES * (NODE_BYTES + MOST_KINDS + 1);
 
 /// A node: its type, left and right.
 #[derive(Clone, Copy, Debug, PartialEq, Eq)]
@@ -61,8 +76,20 @@ impl Book {
         bytes_of(&words)
     }
 
+    /// The bytes of a plan of the book with these rows: contents, settings, nodes, rows.
+    pub fn plan(&self, rows: &[u8]) -> Vec<u8> {
+        let nodes_length = (NODE_BYTES * self.nodes.len()) as u16;
+        let rows_at = PLAN_NODES as u16 + nodes_length;
+        let rows_length = rows.len() as u16;
+        let mut words = vec![3, 1, 20, 4, 2, 24, nodes_length, 3, rows_at, rows_length];
+        words.extend(self.settings_and_nodes());
+        let mut bytes = bytes_of(&words);
+        bytes.extend(rows);
+        bytes
+    }
+
     /// The words of the settings and of the nodes, which books and plans share.
-    pub fn settings_and_nodes(&self) -> Vec<u16> {
+    fn settings_and_nodes(&self) -> Vec<u16> {
         let mut words = vec![self.kinds, self.start];
         for node in &self.nodes {
             words.extend([node.form, node.left, node.right]);

@@ -25,7 +25,7 @@ pub fn compile(book: &[u8], plan: &mut [u8]) -> Compiled {
     if formed.number != DONE {
         return compiled(formed.number, formed.place, 0, 0);
     }
-    let book = Book::of(&book[14..]);
+    let book = Book::of(&book[BOOK_SETTINGS..]);
     let facts = facts(&book);
     if !facts.productive[usize::from(book.start)] {
         return compiled(BARREN, u32::from(book.start), 0, 0);
@@ -216,19 +216,14 @@ fn lowest_shared(one: Kinds, other: Kinds) -> Option<u32> {
         .map(|kind| kind as u32)
 }
 
-/// The plan's bytes: contents, settings, nodes, rows.
+/// The plan's bytes, with the rows by these facts.
 fn plan_by(book: &Book, facts: &Facts) -> Vec<u8> {
-    let count = book.nodes.len();
-    let rows = (count * (usize::from(book.kinds) + 1)) as u16;
-    let nodes = (NODE_BYTES * count) as u16;
-    let mut words = vec![3, 1, 20, 4, 2, 24, nodes, 3, 24 + nodes, rows];
-    words.extend(book.settings_and_nodes());
-    let mut bytes = bytes_of(&words);
-    for own in 0..count {
-        bytes.extend((0..usize::from(book.kinds)).map(|kind| cell(book, facts, own, kind)));
-        bytes.push(u8::from(facts.nullable[own]));
+    let mut rows = Vec::new();
+    for own in 0..book.nodes.len() {
+        rows.extend((0..usize::from(book.kinds)).map(|kind| cell(book, facts, own, kind)));
+        rows.push(u8::from(facts.nullable[own]));
     }
-    bytes
+    book.plan(&rows)
 }
 
 /// The cell of a node for a kind.

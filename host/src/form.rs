@@ -8,10 +8,10 @@ pub fn form(book: &[u8]) -> Formed {
     let Some(count) = node_count(book.len()) else {
         return formed(LENGTH, 0);
     };
-    if words_of(&book[..14]) != [2, 1, 14, 4, 2, 18, (NODE_BYTES * count) as u16] {
+    if words_of(&book[..BOOK_SETTINGS]) != [2, 1, 14, 4, 2, 18, (NODE_BYTES * count) as u16] {
         return formed(CONTENTS, 0);
     }
-    let book = Book::of(&book[14..]);
+    let book = Book::of(&book[BOOK_SETTINGS..]);
     if !settings_proper(&book) {
         return formed(SETTINGS, 0);
     }

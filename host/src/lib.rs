@@ -3,10 +3,14 @@
 pub mod answers;
 pub mod book;
 pub mod books;
+pub mod calls;
 pub mod compile;
 pub mod ffi;
 pub mod form;
+pub mod fuzz;
+pub mod listing;
 pub mod meaning;
+pub mod program;
 pub mod read;
 pub mod recognise;
 pub mod worked;
@@ -36,6 +40,12 @@ mod tests {
     #[test]
     fn worked_readings() {
         worked::check_read(compile, read);
+    }
+
+    /// The worked listings.
+    #[test]
+    fn worked_listings() {
+        worked::check_listing(|input| listing::listing(input).into_bytes());
     }
 
     /// The worked runs, by derivations.

@@ -6,13 +6,8 @@ use crate::books::random::Random;
 use crate::books::runs::{any_run, Heights};
 use crate::books::shapes::little_book;
 use crate::books::small::all_books;
+use crate::calls::{Compile, Read};
 use crate::recognise::{Meaning, Table};
-
-/// A compiler.
-pub type Compile = fn(&[u8], &mut [u8]) -> Compiled;
-
-/// A reader.
-pub type Read = fn(&[u8], &[u8], &mut [u16], &mut [u16]) -> Reading;
 
 /// Room for the plan of a small book.
 const PLAN_BYTES: usize = 2_048;

@@ -4,26 +4,20 @@ use crate::answers::*;
 use crate::book::*;
 use crate::form::{improper, settings_proper};
 
-/// Where the settings stand in a plan.
-const PLAN_SETTINGS: usize = 20;
-
-/// Where the nodes begin in a plan.
-const PLAN_NODES: usize = 24;
-
 /// The most events that are read.
 pub const MOST_EVENTS: usize = 65_535;
 
 const REFUSE: u8 = 0;
 const TAKE: u8 = 1;
-const GO_LEFT: u8 = 2;
+pub const GO_LEFT: u8 = 2;
 const HOLD_RIGHT: u8 = 3;
 const SKIP_LEFT: u8 = 4;
 const GO_RIGHT: u8 = 5;
 
 /// A plan taken apart: its settings and nodes, and its rows.
-struct Plan<'a> {
-    book: Book,
-    cells: &'a [u8],
+pub struct Plan<'a> {
+    pub book: Book,
+    pub cells: &'a [u8],
 }
 
 /// A plan being run: the held parts, the last one held last, and the records so far.
@@ -61,7 +55,7 @@ fn reading(number: u32, place: usize, records: usize, expected: u64) -> Reading 
 
 /// The records of an accepted run, or the refusal.
 fn records_of(plan: &[u8], run: &[u8], slots: usize) -> Result<Vec<u16>, Reading> {
-    let plan = taken_apart(plan).ok_or(reading(PLAN_FORM, 0, 0, 0))?;
+    let plan = well_formed(plan).ok_or(reading(PLAN_FORM, 0, 0, 0))?;
     if let Some(place) = improper_cell(&plan) {
         return Err(reading(CELL, place, 0, 0));
     }
@@ -97,7 +91,16 @@ fn refusal(number: u32, place: usize, expected: u64) -> Reading {
 }
 
 /// The plan taken apart, if its length, contents, settings and nodes are right.
-fn taken_apart(plan: &[u8]) -> Option<Plan<'_>> {
+fn well_formed(plan: &[u8]) -> Option<Plan<'_>> {
+    let plan = taken_apart(plan)?;
+    let right = (1..=MOST_NODES).contains(&plan.book.nodes.len())
+        && settings_proper(&plan.book)
+        && improper(&plan.book).is_none();
+    right.then_some(plan)
+}
+
+/// The plan taken apart, if its contents are those of its number of nodes and kinds, and its length is by them.
+pub fn taken_apart(plan: &[u8]) -> Option<Plan<'_>> {
     let contents = words_of(plan.get(..PLAN_SETTINGS)?);
     let rows_at = usize::from(contents[8]);
     let book = Book::of(plan.get(PLAN_SETTINGS..rows_at.max(PLAN_NODES))?);
@@ -117,11 +120,8 @@ fn taken_apart(plan: &[u8]) -> Option<Plan<'_>> {
         PLAN_NODES + nodes_bytes,
         row_bytes,
     ];
-    let right = contents.iter().map(|&word| usize::from(word)).eq(fixed)
-        && (1..=MOST_NODES).contains(&count)
-        && cells.len() == row_bytes
-        && settings_proper(&book)
-        && improper(&book).is_none();
+    let right =
+        contents.iter().map(|&word| usize::from(word)).eq(fixed) && cells.len() == row_bytes;
     right.then_some(Plan { book, cells })
 }
 

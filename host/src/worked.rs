@@ -2,6 +2,7 @@
 
 use crate::answers::*;
 use crate::book::*;
+use crate::books::inputs::input;
 use crate::recognise::{Meaning, Table};
 
 /// The first 18 bytes of the rinse book.
@@ -80,26 +81,37 @@ const RINSE_ROWS: [[u8; 4]; 9] = [
     [3, 0, 0, 0],
 ];
 
-/// Each worked book with the compiler's answer in ample room: number, place, kind, size.
-fn compile_cases() -> Vec<(Book, [u32; 4])> {
-    let both_nullable = [(EMPTY, 0, 0), (EMPTY, 0, 0), (EITHER, 0, 1)];
-    let not_after = [(TOKEN, 0, 0), (EMPTY, 0, 0), (EITHER, 0, 1), (THEN, 2, 0)];
-    let recursion = [
+/// Two empties, and an either of them.
+fn both_nullable() -> Book {
+    Book::ending(1, &[(EMPTY, 0, 0), (EMPTY, 0, 0), (EITHER, 0, 1)])
+}
+
+/// A token that may be left out, and the same token after it.
+fn not_after() -> Book {
+    let nodes = [(TOKEN, 0, 0), (EMPTY, 0, 0), (EITHER, 0, 1), (THEN, 2, 0)];
+    Book::ending(1, &nodes)
+}
+
+/// Left recursion that conflicts.
+fn left_recursion() -> Book {
+    let nodes = [
         (REF, 4, 0),
         (TOKEN, 0, 0),
         (THEN, 0, 1),
         (TOKEN, 1, 0),
         (EITHER, 2, 3),
     ];
+    Book::ending(2, &nodes)
+}
+
+/// Each worked book with the compiler's answer in ample room: number, place, kind, size.
+fn compile_cases() -> Vec<(Book, [u32; 4])> {
     vec![
         (rinse(), [DONE, 0, 0, 114]),
         (shared_kind(), [CONFLICT, 2, 0, 0]),
-        (
-            Book::ending(1, &both_nullable),
-            [CONFLICT, 2, BOTH_NULLABLE, 0],
-        ),
-        (Book::ending(1, &not_after), [CONFLICT, 3, 0, 0]),
-        (Book::ending(2, &recursion), [CONFLICT, 4, 1, 0]),
+        (both_nullable(), [CONFLICT, 2, BOTH_NULLABLE, 0]),
+        (not_after(), [CONFLICT, 3, 0, 0]),
+        (left_recursion(), [CONFLICT, 4, 1, 0]),
         (harmless_recursion(), [DONE, 0, 0, 64]),
         (lone(FAIL), [BARREN, 0, 0, 0]),
         (lone(REF), [BARREN, 0, 0, 0]),
@@ -113,7 +125,7 @@ fn compile_cases() -> Vec<(Book, [u32; 4])> {
 fn rinse_plan() -> Vec<u8> {
     let contents = [3, 1, 20, 4, 2, 24, 54, 3, 78, 36];
     let mut plan = bytes_of(&contents);
-    plan.extend(&rinse().bytes()[14..]);
+    plan.extend(&rinse().bytes()[BOOK_SETTINGS..]);
     plan.extend(RINSE_ROWS.concat());
     plan
 }
@@ -241,6 +253,39 @@ pub fn check_read(
         wanted.resize(case.room, 0);
         assert_eq!(tree, wanted, "run {:?} of {:?}", case.run, case.book);
         assert_eq!(held, vec![0; case.slots], "run {:?}", case.run);
+    }
+}
+
+/// Worked books and runs with what the listing program prints.
+fn listing_cases() -> Vec<(Book, &'static [u8], &'static str)> {
+    vec![
+        (rinse(), &[0, 1, 2], "accept 3 8\n8\n0\n7\n6\n5\n1\n-4\n2\n"),
+        (rinse(), &[0, 2], "accept 2 5\n8\n0\n7\n-6\n2\n"),
+        (rinse(), &[0, 0], "refused 13 1 6\n"),
+        (rinse(), &[], "refused 14 0 1\n"),
+        (rinse(), &[0, 1, 1], "refused 14 3 2\n"),
+        (rinse(), &[0, 2, 1], "refused 13 2 0\n"),
+        (rinse(), &[0, 3], "refused 12 1 6\n"),
+        (shared_kind(), &[0], "refused 6 2 0\n"),
+        (both_nullable(), &[], "refused 6 2 255\n"),
+        (not_after(), &[0], "refused 6 3 0\n"),
+        (left_recursion(), &[1, 0], "refused 6 4 1\n"),
+        (harmless_recursion(), &[0], "accept 1 2\n4\n3\n"),
+        (lone(FAIL), &[], "refused 5 0 0\n"),
+        (lone(FAIL), &[0], "refused 5 0 0\n"),
+        (lone(EMPTY), &[], "accept 0 1\n-0\n"),
+        (lone(EMPTY), &[0], "refused 13 0 0\n"),
+        (doubling(), &[], "accept 0 1\n-511\n"),
+        (shared_kind_aside(), &[0], "accept 1 1\n0\n"),
+    ]
+}
+
+/// Checks a listing program.
+pub fn check_listing(listing: impl Fn(&[u8]) -> Vec<u8>) {
+    for (book, run, lines) in listing_cases() {
+        let printed = listing(&input(&book.bytes(), run));
+        let printed = String::from_utf8_lossy(&printed);
+        assert_eq!(printed, lines, "run {run:?} of {book:?}");
     }
 }
 

@@ -6,27 +6,21 @@ use host::books::damaged::damaged;
 use host::books::random::Random;
 use host::books::shapes::{any_book, large_book, likely_book};
 use host::books::small::all_books;
+use host::calls::{wanted_compile, Answer, Lender, Lending};
 use host::compile::compile;
 use host::ffi;
-use host::ffi::lent::{Edge, Lent};
+use host::ffi::lent::Edge;
 use host::worked;
 
 /// The longest book that is tried.
 const LONGEST_BOOK: usize = 4096;
 
-/// The longest plan buffer that is tried.
-const LONGEST_PLAN: usize = 40_960;
-
 /// What the plan buffer holds before a call.
 const GARBAGE: u8 = 0xA5;
 
-/// How many bytes beside the plan buffer are looked at.
-const BESIDE: usize = 64;
-
 /// Calls both on the same bytes, between closed pages, and compares answers and buffers.
 struct Pair {
-    book: Lent<u8>,
-    plan: Lent<u8>,
+    lender: Lender,
     tally: Tally,
     both_nullable: usize,
     shared: usize,
@@ -37,8 +31,7 @@ impl Pair {
     /// A pair that has compared nothing yet.
     fn new() -> Pair {
         Pair {
-            book: Lent::new(LONGEST_BOOK),
-            plan: Lent::new(LONGEST_PLAN),
+            lender: Lender::ample(),
             tally: Tally::default(),
             both_nullable: 0,
             shared: 0,
@@ -47,23 +40,19 @@ impl Pair {
     }
 
     /// Compares answers and buffers for these bytes and a plan buffer of this length.
-    fn compare(&mut self, bytes: &[u8], plan_length: usize, edge: Edge) -> Compiled {
-        let mut wanted = vec![GARBAGE; plan_length];
-        let wanted_answer = compile(bytes, &mut wanted);
-        self.plan.lend(plan_length + BESIDE, edge).fill(GARBAGE);
-        let book = self.book.put(bytes, edge);
-        let plan = self.plan.lend(plan_length, edge);
-        let answer = ffi::compile::compile(book, plan);
-        assert_eq!(answer, wanted_answer, "of the book {bytes:?}");
-        assert_eq!(plan, wanted, "of the book {bytes:?}");
-        assert_eq!(book, bytes, "the book was written");
-        let beside = match edge {
-            Edge::Begin => &self.plan.part(plan_length + BESIDE, edge)[plan_length..],
-            Edge::End => &self.plan.part(plan_length + BESIDE, edge)[..BESIDE],
+    fn compare(&mut self, bytes: &[u8], room: usize, edge: Edge) -> Compiled {
+        let lending = Lending {
+            edge,
+            garbage: GARBAGE,
         };
-        assert_eq!(beside, [GARBAGE; BESIDE], "beside the plan buffer");
-        self.tally.count(answer.number);
-        answer
+        let call = ffi::compile::compile;
+        let answer = self.lender.compile(call, bytes, room, lending);
+        assert_eq!(answer, wanted_compile(bytes, room), "of the book {bytes:?}");
+        self.tally.count(answer.number());
+        match answer {
+            Answer::Compile(compiled, _) => compiled,
+            other => panic!("{other:?} of the book {bytes:?}"),
+        }
     }
 
     /// Compares for a plan buffer of just the plan's size, and of another.
@@ -170,22 +159,4 @@ fn damaged_books() {
         .expect(&[LENGTH, CONTENTS, SETTINGS, NODE], 3_000);
     pair.tally.expect(&[DONE, CONFLICT, PLAN_ROOM], 2_000);
     pair.tally.expect(&[BARREN], 800);
-}
-
-/// Books in memory that cannot be written.
-#[test]
-fn books_that_can_only_be_read() {
-    let mut pair = Pair::new();
-    let mut random = Random::new(5);
-    for _ in 0..2_000 {
-        let bytes = any_book(&mut random).bytes();
-        pair.book.put(&bytes, Edge::End);
-        pair.book.seal();
-        let plan = pair.plan.lend(600, Edge::End);
-        let answer = ffi::compile::compile(pair.book.part(bytes.len(), Edge::End), plan);
-        pair.book.open();
-        assert_eq!(answer, compile(&bytes, &mut [0; 600]));
-        pair.tally.count(answer.number);
-    }
-    pair.tally.expect(&[DONE, BARREN, CONFLICT], 100);
 }

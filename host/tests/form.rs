@@ -6,9 +6,9 @@ use host::books::damaged::damaged;
 use host::books::random::Random;
 use host::books::shapes::{any_book, large_book};
 use host::books::small::all_books;
+use host::calls::{wanted_form, Lender, Lending};
 use host::ffi;
-use host::ffi::lent::{Edge, Lent};
-use host::form::form;
+use host::ffi::lent::Edge;
 use host::worked;
 
 /// The longest input that is tried.
@@ -16,7 +16,7 @@ const LONGEST: usize = 4096;
 
 /// Calls both on the same bytes, between closed pages, and compares the answers.
 struct Pair {
-    lent: Lent<u8>,
+    lender: Lender,
     tally: Tally,
 }
 
@@ -24,30 +24,22 @@ impl Pair {
     /// A pair that has compared nothing yet.
     fn new() -> Pair {
         Pair {
-            lent: Lent::new(LONGEST),
+            lender: Lender::ample(),
             tally: Tally::default(),
         }
     }
 
     /// Compares both answers to these bytes, which end at a closed page.
     fn compare(&mut self, bytes: &[u8]) {
-        self.lent.put(bytes, Edge::End);
-        self.judge(bytes, Edge::End);
+        self.compare_at(bytes, Edge::End);
     }
 
-    /// Compares both answers to these bytes, which lie at an edge and can only be read.
-    fn compare_sealed(&mut self, bytes: &[u8], edge: Edge) {
-        self.lent.put(bytes, edge);
-        self.lent.seal();
-        self.judge(bytes, edge);
-        self.lent.open();
-    }
-
-    /// Compares both answers to the bytes that lie at an edge of the lent room.
-    fn judge(&mut self, bytes: &[u8], edge: Edge) {
-        let answer = ffi::form::form(self.lent.part(bytes.len(), edge));
-        assert_eq!(answer, form(bytes), "of the book {bytes:?}");
-        self.tally.count(answer.number);
+    /// Compares both answers to these bytes, which lie at an edge.
+    fn compare_at(&mut self, bytes: &[u8], edge: Edge) {
+        let lending = Lending { edge, garbage: 0 };
+        let answer = self.lender.form(ffi::form::form, bytes, lending);
+        assert_eq!(answer, wanted_form(bytes), "of the book {bytes:?}");
+        self.tally.count(answer.number());
     }
 }
 
@@ -112,8 +104,8 @@ fn every_length() {
         let mut fails = bytes.clone();
         fails.iter_mut().skip(BOOK_NODES).for_each(|b| *b = 0);
         for edge in [Edge::Begin, Edge::End] {
-            pair.compare_sealed(&bytes, edge);
-            pair.compare_sealed(&fails, edge);
+            pair.compare_at(&bytes, edge);
+            pair.compare_at(&fails, edge);
         }
     }
     pair.tally.expect(&[LENGTH], 5 * (LONGEST + 1 - MOST_NODES));
@@ -167,7 +159,7 @@ fn random_books_and_damaged_ones() {
             bytes = damaged(&mut random, &bytes);
         }
         let edge = random.pick(&[Edge::Begin, Edge::End]);
-        pair.compare_sealed(&bytes[..bytes.len().min(LONGEST)], edge);
+        pair.compare_at(&bytes[..bytes.len().min(LONGEST)], edge);
     }
     pair.tally
         .expect(&[DONE, LENGTH, CONTENTS, SETTINGS, NODE], 4_000);

@@ -2,68 +2,55 @@
 
 use host::answers::*;
 use host::book::*;
-use host::books::forged::{any_plan, restless_plan};
+use host::books::forged::{any_plan, circle, restless_plan};
+use host::books::limits::{nesting, rinse_run, winding};
 use host::books::random::Random;
 use host::books::runs::{any_run, lawful_run, Heights};
 use host::books::shapes::{any_book, large_book, likely_book};
+use host::calls::{wanted_read, Lender, Lending};
 use host::compile::{compile, plan_of};
 use host::ffi;
-use host::ffi::lent::{Edge, Lent};
+use host::ffi::lent::Edge;
 use host::read::{cells_of, read, MOST_EVENTS};
 use host::worked;
 
 /// What the buffers hold before a call.
-const GARBAGE: u16 = 0xA5A5;
-
-/// How many numbers beside each buffer are looked at.
-const BESIDE: usize = 32;
+const GARBAGE: u8 = 0xA5;
 
 /// The answers that a reader can give.
-const ANSWERS: [u32; 10] = [
+const READ_AS: [u32; 10] = [
     DONE, PLAN_FORM, CELL, LONG, DEEP, UNKNOWN, UNEXPECTED, END, RUNAWAY, NO_ROOM,
 ];
 
 /// Calls both on the same input, between closed pages, and compares answers and buffers.
 struct Pair {
-    plan: Lent<u8>,
-    run: Lent<u8>,
-    held: Lent<u16>,
-    tree: Lent<u16>,
+    lender: Lender,
     tally: Tally,
 }
 
 impl Pair {
-    /// A pair with so many slots and so much room at most.
-    fn new(slots: usize, room: usize) -> Pair {
+    /// A pair that has compared nothing yet.
+    fn new() -> Pair {
         Pair {
-            plan: Lent::new(40_960),
-            run: Lent::new(2 * MOST_EVENTS),
-            held: Lent::new(slots + BESIDE),
-            tree: Lent::new(room + BESIDE),
+            lender: Lender::ample(),
             tally: Tally::default(),
         }
     }
 
     /// Compares answers and buffers for a plan and a run with so many slots and so much room.
     fn compare(&mut self, plan: &[u8], run: &[u8], slots: usize, room: usize, edge: Edge) {
-        let mut held = vec![GARBAGE; slots];
-        let mut tree = vec![GARBAGE; room];
-        let wanted = read(plan, run, &mut held, &mut tree);
-        self.held.lend(slots + BESIDE, edge).fill(GARBAGE);
-        self.tree.lend(room + BESIDE, edge).fill(GARBAGE);
-        let lent_plan = self.plan.put(plan, edge);
-        let lent_run = self.run.put(run, edge);
-        let lent_held = self.held.lend(slots, edge);
-        let lent_tree = self.tree.lend(room, edge);
-        let reading = ffi::read::read(lent_plan, lent_run, lent_held, lent_tree);
-        let case = || format!("plan {plan:?}, run {run:?}, {slots} slots, room {room}");
-        assert_eq!(reading, wanted, "{}", case());
-        assert!(lent_held == held, "the slots of {}", case());
-        assert!(lent_tree == tree, "the tree of {}", case());
-        assert!(lent_plan == plan && lent_run == run, "inputs of {}", case());
-        assert_eq!(beside(&self.held, slots, edge), [GARBAGE; BESIDE]);
-        assert_eq!(beside(&self.tree, room, edge), [GARBAGE; BESIDE]);
-        self.tally.count(reading.number);
+        let lending = Lending {
+            edge,
+            garbage: GARBAGE,
+        };
+        let wanted = wanted_read(plan, run, slots, room);
+        let call = ffi::read::read;
+        let answer = self.lender.read(call, (plan, run), (slots, room), lending);
+        assert!(
+            answer == wanted,
+            "plan {plan:?}, run {run:?}, {slots} slots, room {room}: {answer} where {wanted} is right",
+        );
+        self.tally.count(answer.number());
     }
 
     /// Compares for some numbers of slots, and for rooms about the size of the tree.
@@ -75,15 +62,6 @@ impl Pair {
         let room = random.pick(&[0, records, records.saturating_sub(1), records, more]);
         let edge = random.pick(&[Edge::Begin, Edge::End]);
         self.compare(plan, run, slots, room, edge);
-    }
-}
-
-/// The numbers beside a lent part.
-fn beside(lent: &Lent<u16>, count: usize, edge: Edge) -> &[u16] {
-    let whole = lent.part(count + BESIDE, edge);
-    match edge {
-        Edge::Begin => &whole[count..],
-        Edge::End => &whole[..BESIDE],
     }
 }
 
@@ -102,7 +80,7 @@ fn worked_runs() {
 /// Plans of books that pass, with lawful, spoilt and strange runs.
 #[test]
 fn compiled_plans() {
-    let mut pair = Pair::new(600, 100_000);
+    let mut pair = Pair::new();
     let mut random = Random::new(1);
     for _ in 0..60_000 {
         let book = likely_book(&mut random);
@@ -123,7 +101,7 @@ fn compiled_plans() {
 /// Plans forged in all ways, now and then with a run that is too long.
 #[test]
 fn forged_plans() {
-    let mut pair = Pair::new(600, 100_000);
+    let mut pair = Pair::new();
     let mut random = Random::new(2);
     for round in 0..150_000 {
         let book = any_book(&mut random);
@@ -138,13 +116,36 @@ fn forged_plans() {
         }
         pair.compare_rooms(&mut random, &plan, &run);
     }
-    pair.tally.expect(&ANSWERS, 2_000);
+    pair.tally.expect(&READ_AS, 2_000);
+}
+
+/// Plans at the limits of nodes, kinds and start, and beyond them.
+#[test]
+fn plans_beyond_limits() {
+    let mut pair = Pair::new();
+    for count in [0, 1, MOST_NODES, MOST_NODES + 1] {
+        for kinds in [0, 1, MOST_KINDS, MOST_KINDS + 1] {
+            for start in [0, count.saturating_sub(1), count] {
+                let book = Book {
+                    kinds: kinds as u16,
+                    start: start as u16,
+                    nodes: vec![node(EMPTY, 0, 0); count],
+                };
+                let mut rows = vec![0; count * (kinds + 1)];
+                let last_cells = rows.iter_mut().skip(kinds).step_by(kinds + 1);
+                last_cells.for_each(|cell| *cell = 1);
+                pair.compare(&book.plan(&rows), &[], 1, 1, Edge::End);
+            }
+        }
+    }
+    pair.tally.expect(&[DONE], 8);
+    pair.tally.expect(&[PLAN_FORM], 30);
 }
 
 /// Plans of up to 512 nodes and 64 kinds.
 #[test]
 fn large_plans() {
-    let mut pair = Pair::new(600, 4_000_000);
+    let mut pair = Pair::new();
     let mut random = Random::new(3);
     for round in 0..2_000 {
         let book = large_book(&mut random);
@@ -166,7 +167,7 @@ fn large_plans() {
 /// Lawful runs with every number of slots from none to enough.
 #[test]
 fn every_number_of_slots() {
-    let mut pair = Pair::new(600, 100_000);
+    let mut pair = Pair::new();
     let mut random = Random::new(4);
     let mut rounds = 0;
     while rounds < 5_000 {
@@ -191,7 +192,7 @@ fn every_number_of_slots() {
 /// Walks that end, or go on, at the last visit that is allowed.
 #[test]
 fn walks_of_as_many_visits_as_nodes() {
-    let mut pair = Pair::new(600, 100_000);
+    let mut pair = Pair::new();
     for count in 2..=40 {
         for last in [FAIL, TOKEN, REF, THEN] {
             for &cell in cells_of(last) {
@@ -211,62 +212,13 @@ fn walks_of_as_many_visits_as_nodes() {
     pair.tally.expect(&met, 30);
 }
 
-/// A plan of refs, each to the next, up to a last node of this type and cell, which leads back.
-fn circle(count: u16, start: u16, last: u16, cell: u8) -> Vec<u8> {
-    let mut nodes: Vec<_> = (1..count).map(|to| (REF, to, 0)).collect();
-    nodes.push((last, 0, 0));
-    let book = Book {
-        start,
-        ..Book::ending(1, &nodes)
-    };
-    let mut plan = plan_of(&book);
-    let rows = plan.len() - 2 * usize::from(count);
-    for row in plan[rows..].chunks_exact_mut(2) {
-        row[0] = 2;
-    }
-    let at = plan.len() - 2;
-    plan[at] = cell;
-    plan
-}
-
-/// A book of nested pairs of events 0 and 1.
-fn nesting() -> Book {
-    let nodes = [
-        (TOKEN, 0, 0),
-        (TOKEN, 1, 0),
-        (REF, 6, 0),
-        (THEN, 2, 1),
-        (THEN, 0, 3),
-        (EMPTY, 0, 0),
-        (EITHER, 4, 5),
-    ];
-    Book::ending(2, &nodes)
-}
-
-/// A book of 512 nodes, any number of events 0, where each event visits nearly all nodes; `skipping` where each visit also
-/// skips an empty part.
-fn winding(skipping: bool) -> Book {
-    let mut nodes = vec![(EMPTY, 0, 0), (TOKEN, 0, 0)];
-    for own in 2..509 {
-        nodes.push(if skipping {
-            (THEN, 0, own - 1)
-        } else {
-            (TAGGED, own - 1, own)
-        });
-    }
-    nodes.extend([(REF, 511, 0), (THEN, 508, 509), (EITHER, 510, 0)]);
-    Book::ending(1, &nodes)
-}
-
 /// The rinse book with runs about the limit of events.
 #[test]
 fn longest_runs() {
-    let mut pair = Pair::new(70_000, 600_000);
+    let mut pair = Pair::new();
     let rinse = plan_of(&worked::rinse());
     for length in [65_533, 65_534, 65_535, 65_536, 65_537] {
-        let mut run = vec![1; length];
-        run[0] = 0;
-        run[length - 1] = 2;
+        let mut run = rinse_run(length);
         let records = 4 * length - 4;
         for (slots, room) in [
             (2, 400_000),
@@ -292,7 +244,7 @@ fn longest_runs() {
 /// Nesting up to all events, with slots about the depth.
 #[test]
 fn deepest_runs() {
-    let mut pair = Pair::new(70_000, 600_000);
+    let mut pair = Pair::new();
     let plan = plan_of(&nesting());
     for opened in [32_766, 32_767, 65_535] {
         let mut run = vec![0; opened];
@@ -307,7 +259,7 @@ fn deepest_runs() {
 /// The longest run with nearly all nodes visited at each event.
 #[test]
 fn greatest_trees() {
-    let mut pair = Pair::new(600, 40_000_000);
+    let mut pair = Pair::new();
     let run = vec![0; MOST_EVENTS];
     let (visits, skips) = (plan_of(&winding(false)), plan_of(&winding(true)));
     let visited = 511 * MOST_EVENTS;
@@ -316,31 +268,4 @@ fn greatest_trees() {
     pair.compare(&skips, &run, 2, 1_000, Edge::End);
     pair.tally.expect(&[DONE], 1);
     pair.tally.expect(&[NO_ROOM], 2);
-}
-
-/// Plans and runs in memory that cannot be written.
-#[test]
-fn inputs_that_can_only_be_read() {
-    let mut pair = Pair::new(600, 100_000);
-    let mut random = Random::new(5);
-    for _ in 0..3_000 {
-        let book = likely_book(&mut random);
-        let plan = any_plan(&mut random, &book);
-        let run = any_run(&mut random, &book, &Heights::of(&book));
-        pair.plan.put(&plan, Edge::End);
-        pair.run.put(&run, Edge::End);
-        pair.plan.seal();
-        pair.run.seal();
-        let lent_plan = pair.plan.part(plan.len(), Edge::End);
-        let lent_run = pair.run.part(run.len(), Edge::End);
-        let held = pair.held.lend(40, Edge::End);
-        let tree = pair.tree.lend(8, Edge::End);
-        let reading = ffi::read::read(lent_plan, lent_run, held, tree);
-        pair.plan.open();
-        pair.run.open();
-        assert_eq!(reading, read(&plan, &run, &mut [0; 40], &mut [0; 8]));
-        pair.tally.count(reading.number);
-    }
-    let common = [DONE, PLAN_FORM, CELL, UNKNOWN, UNEXPECTED, END, NO_ROOM];
-    pair.tally.expect(&common, 50);
 }

@@ -4,7 +4,7 @@ use super::damaged::damaged;
 use super::random::Random;
 use crate::book::*;
 use crate::compile::plan_of;
-use crate::read::cells_of;
+use crate::read::{cells_of, GO_LEFT};
 
 /// A plan of a well-formed book, its own or forged in one of many ways.
 pub fn any_plan(random: &mut Random, book: &Book) -> Vec<u8> {
@@ -27,6 +27,29 @@ pub fn restless_plan(random: &mut Random, book: &Book) -> Vec<u8> {
     let mut plan = plan_of(book);
     legal_cells(random, book, &mut plan, 1, 1_000);
     plan
+}
+
+/// A plan of refs, each to the next, up to a last node of this type and cell, which leads back.
+pub fn circle(count: u16, start: u16, last: u16, cell: u8) -> Vec<u8> {
+    let mut nodes: Vec<_> = (1..count).map(|to| (REF, to, 0)).collect();
+    nodes.push((last, 0, 0));
+    let book = Book {
+        start,
+        ..Book::ending(1, &nodes)
+    };
+    let mut rows = [GO_LEFT, 0].repeat(nodes.len());
+    rows[2 * nodes.len() - 2] = cell;
+    book.plan(&rows)
+}
+
+/// Any circle of few nodes.
+pub fn any_circle(random: &mut Random) -> Vec<u8> {
+    let count = random.within(2, 6);
+    let any = random.below(count);
+    let start = random.pick(&[0, any, count - 1]);
+    let last = random.pick(&[FAIL, TOKEN, REF, THEN]);
+    let cell = random.pick(cells_of(last));
+    circle(count as u16, start as u16, last, cell)
 }
 
 /// Sets about one in `one_in` kind cells to a legal one, which is 0 about once in `zero_in`.
@@ -75,17 +98,21 @@ fn misfit(random: &mut Random, book: &Book, plan: &mut [u8]) {
     let count = change(random, book.nodes.len());
     let kinds = change(random, usize::from(book.kinds));
     let nodes = NODE_BYTES * count;
-    for (at, word) in [(12, nodes), (16, 24 + nodes), (18, count * (kinds + 1))] {
+    for (at, word) in [
+        (12, nodes),
+        (16, PLAN_NODES + nodes),
+        (18, count * (kinds + 1)),
+    ] {
         plan[at..at + 2].copy_from_slice(&(word as u16).to_le_bytes());
     }
     if random.once_in(2) {
-        plan[20..22].copy_from_slice(&(kinds as u16).to_le_bytes());
+        plan[PLAN_SETTINGS..PLAN_SETTINGS + 2].copy_from_slice(&(kinds as u16).to_le_bytes());
     }
 }
 
 /// Where the rows begin in the plan of a book.
 fn rows_at(book: &Book) -> usize {
-    24 + NODE_BYTES * book.nodes.len()
+    PLAN_NODES + NODE_BYTES * book.nodes.len()
 }
 
 /// The rows of a plan of the book.

@@ -2,6 +2,9 @@
 
 pub mod damaged;
 pub mod forged;
+pub mod inputs;
+pub mod limits;
+pub mod loose;
 pub mod random;
 pub mod runs;
 pub mod shapes;
