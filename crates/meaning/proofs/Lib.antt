@@ -11,6 +11,5 @@ pub mod Run
 pub mod Unique
 pub mod Verdict
 pub mod Theorem
-pub mod Records
 pub mod Limits
 pub mod Slots

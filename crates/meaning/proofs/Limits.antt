@@ -2,12 +2,12 @@
 -- DEEP. Of any plan, forged or not.
 use Prim.Native.Nat.{ℕ, zero, suc}
 use mathlib.Core.Path.{_≡_, refl}
-use mathlib.Core.Bool.{Bool, true, false, false≢true}
+use mathlib.Core.Bool.{Bool, true, false, false≢true, cond}
 use mathlib.Core.List.{List, [], _∷_}
 use mathlib.Core.Logic.{_⊎_, inl, inr}
 use lib.Dec.{ltb}
 use lib.ListN.{length}
-use Rattle.plan.specs.Running.{Plan, Step, taken, refused, deep, runaway, emptied, noted, pick, visit, takeOff, walk, event}
+use Rattle.plan.specs.Running.{Plan, Step, taken, refused, deep, runaway, emptied, noted, visit, takeOff, walk, event}
 use Rattle.plan.specs.Running.{Answer, deep-at, unknown-at, logged, onward, finish, reads, reading}
 use Rattle.meaning.specs.Plans.{withFree}
 
@@ -26,10 +26,10 @@ unfolding noted
 noted-near r near-same = near-same
 noted-near r near-deep = near-deep
 
-pick-near : (t u : Bool) {s s′ : Step} → (t ≡ true → u ≡ true) → Near s s′ → Near (pick t s deep) (pick u s′ deep)
-pick-near true true f n = n
-pick-near true false f n = absurd (false≢true (f refl))
-pick-near false u f n = near-deep
+cond-near : (t u : Bool) {s s′ : Step} → (t ≡ true → u ≡ true) → Near s s′ → Near (cond t s deep) (cond u s′ deep)
+cond-near true true f n = n
+cond-near true false f n = absurd (false≢true (f refl))
+cond-near false u f n = near-deep
 
 visit-near : (cell l r : ℕ) (go go′ : ℕ → List ℕ → Step) (free free′ : ℕ → Bool) (held : List ℕ)
     → ((n : ℕ) → free n ≡ true → free′ n ≡ true) → ((m : ℕ) (h : List ℕ) → Near (go m h) (go′ m h))
@@ -38,7 +38,7 @@ unfolding visit
 visit-near zero l r go go′ free free′ held f g = near-same
 visit-near (suc zero) l r go go′ free free′ held f g = near-same
 visit-near (suc (suc zero)) l r go go′ free free′ held f g = g l held
-visit-near (suc (suc (suc zero))) l r go go′ free free′ held f g = pick-near (free (length held)) (free′ (length held)) (f (length held)) (g l (r ∷ held))
+visit-near (suc (suc (suc zero))) l r go go′ free free′ held f g = cond-near (free (length held)) (free′ (length held)) (f (length held)) (g l (r ∷ held))
 visit-near (suc (suc (suc (suc zero)))) l r go go′ free free′ held f g = noted-near (emptied l) (g r held)
 visit-near (suc (suc (suc (suc (suc zero))))) l r go go′ free free′ held f g = g r held
 visit-near (suc (suc (suc (suc (suc (suc c)))))) l r go go′ free free′ held f g = near-same
@@ -92,8 +92,8 @@ module _ (p : Plan) (free free′ : ℕ → Bool) (looser : (n : ℕ) → free n
   reads-close (k ∷ xs) at held = go (ltb k (p .kinds)) (λ h. reads-close xs (suc at) h)
     where
       go : (t : Bool) → ((h : List ℕ) → Close (reads (withFree p free) (suc at) h xs) (reads (withFree p free′) (suc at) h xs))
-          → Close (pick t (onward (event (withFree p free) k held) (λ h. reads (withFree p free) (suc at) h xs) at held) (unknown-at at held))
-          (pick t (onward (event (withFree p free′) k held) (λ h. reads (withFree p free′) (suc at) h xs) at held) (unknown-at at held))
+          → Close (cond t (onward (event (withFree p free) k held) (λ h. reads (withFree p free) (suc at) h xs) at held) (unknown-at at held))
+          (cond t (onward (event (withFree p free′) k held) (λ h. reads (withFree p free′) (suc at) h xs) at held) (unknown-at at held))
       go true f = onward-close at held _ _ (event-near k held) f
       go false f = close-same
 

@@ -3,7 +3,7 @@
 use Prim.Native.Nat.{ℕ, suc, _+_}
 use native.Mathlib.Nat.{add-suc}
 use mathlib.Core.Path.{_≡_, refl, ap, _∙_}
-use mathlib.Core.Bool.{Bool, true, false, not, _&&_, and-false}
+use mathlib.Core.Bool.{Bool, true, false, not, _&&_, and-false, cond}
 use mathlib.Core.List.{List, _∷_}
 use Rattle.book.specs.Book.{Book, leftOf, rightOf}
 use Rattle.book.specs.declared.Node.{Node}
@@ -11,7 +11,7 @@ use Rattle.book.specs.declared.Node.the-variants.{Fail, Empty, Token, Either, T
 use Rattle.rules.specs.Rules.{First, f-token, f-left, f-right, f-hold, f-skip, f-tagged, f-ref, c-first, c-follow}
 use Rattle.rules.specs.Rules.{either-left, either-right, then-left, then-right, tagged-left, ref-left}
 use Rattle.plan.specs.Cells.{Marks, Marked, cellOf}
-use Rattle.plan.specs.Running.{emptied, Step, taken, pick, noted, visit, walk}
+use Rattle.plan.specs.Running.{emptied, Step, taken, noted, visit, walk}
 use Rattle.meaning.specs.Plans.{freePlan}
 use Rattle.meaning.proofs.Facts.{nullable-first-snf}
 use Rattle.meaning.proofs.Walk.{after, recorded, size}
@@ -23,7 +23,7 @@ false-unless true f = absurd (f refl)
 false-unless false f = refl
 
 -- either of two ways goes on
-some-way : (t : Bool) (c d : ℕ) → (e : ℕ) × (pick t (suc c) (suc d) ≡ suc e)
+some-way : (t : Bool) (c d : ℕ) → (e : ℕ) × (cond t (suc c) (suc d) ≡ suc e)
 some-way true c d = (c, refl)
 some-way false c d = (d, refl)
 

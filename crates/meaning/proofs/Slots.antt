@@ -2,13 +2,13 @@
 use Prim.Native.Nat.{ℕ, zero, suc, _+_, _*_, _-_, _≤_, _<_}
 use native.Mathlib.Omega.{arith}
 use mathlib.Core.Path.{_≡_, refl}
-use mathlib.Core.Bool.{Bool, true, false}
+use mathlib.Core.Bool.{Bool, true, false, cond}
 use mathlib.Core.List.{List, [], _∷_}
 use mathlib.Core.Logic.{_⊎_, ⊎-elim, _↔_}
 use lib.Dec.{ltb}
 use lib.ListN.{length}
 use borrow.Author.Tests.{lt-ltb, ltb-true}
-use Rattle.plan.specs.Running.{Plan, Step, taken, refused, runaway, emptied, noted, pick, visit, takeOff, walk, event}
+use Rattle.plan.specs.Running.{Plan, Step, taken, refused, runaway, emptied, noted, visit, takeOff, walk, event}
 use Rattle.plan.specs.Running.{Answer, accepted, deep-at, unknown-at, unexpected-at, end-at, runaway-at, logged, onward, finish, reads, reading}
 use Rattle.book.specs.Book.{Book}
 use Rattle.plan.specs.Cells.{Marks, Marked}
@@ -57,9 +57,9 @@ logged-undeep rs undeep-unexpected = undeep-unexpected
 logged-undeep rs undeep-end = undeep-end
 logged-undeep rs undeep-runaway = undeep-runaway
 
-pick-undeep : (t : Bool) {a c : Answer} → Undeep a → Undeep c → Undeep (pick t a c)
-pick-undeep true h g = h
-pick-undeep false h g = g
+cond-undeep : (t : Bool) {a c : Answer} → Undeep a → Undeep c → Undeep (cond t a c)
+cond-undeep true h g = h
+cond-undeep false h g = g
 
 onward-undeep : (at : ℕ) (before : List ℕ) (rest : List ℕ → Answer) {bound : ℕ} {s : Step} → Shallow bound s
     → ((h : List ℕ) → length h < bound → Undeep (rest h)) → Undeep (onward s rest at before)
@@ -107,14 +107,14 @@ module _ (p : Plan) (slots : ℕ) where
   finish-undeep : (at : ℕ) (before held : List ℕ) → Undeep (finish (withSlots p slots) at before held)
   unfolding finish
   finish-undeep at before [] = undeep-accepted
-  finish-undeep at before (n ∷ held) = pick-undeep (p .null n) (logged-undeep (emptied n ∷ []) (finish-undeep at before held)) undeep-end
+  finish-undeep at before (n ∷ held) = cond-undeep (p .null n) (logged-undeep (emptied n ∷ []) (finish-undeep at before held)) undeep-end
 
   reads-undeep : (xs : List ℕ) (at : ℕ) (held : List ℕ) → length held + held-gain * length xs + 1 ≤ slots
       → Undeep (reads (withSlots p slots) at held xs)
   unfolding reads
   reads-undeep [] at held h = finish-undeep at held held
   reads-undeep (k ∷ xs) at held h =
-      pick-undeep (ltb k (p .kinds))
+      cond-undeep (ltb k (p .kinds))
       (onward-undeep at held (λ g. reads (withSlots p slots) (suc at) g xs) (event-shallow k held (omega arith))
       (λ g q. reads-undeep xs (suc at) g (omega arith)))
       undeep-unknown

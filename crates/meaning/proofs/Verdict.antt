@@ -1,4 +1,5 @@
 -- A run of a passed book has one meaning: no two answers, but for the parts held that they carry, mean the same run.
+use mathlib.Core.Bool.{cond}
 use Prim.Native.Nat.{ℕ, suc, _<_}
 use native.Mathlib.Decide.{decLt}
 use native.Mathlib.Omega.{arith}
@@ -10,7 +11,7 @@ use lib.Dec.{ltb}
 use borrow.Author.Tests.{lt-ltb, le-ltb}
 use Rattle.book.specs.Book.{Book}
 use Rattle.rules.specs.Rules.{r-start}
-use Rattle.plan.specs.Running.{Answer, accepted, deep-at, unknown-at, unexpected-at, end-at, runaway-at, pick}
+use Rattle.plan.specs.Running.{Answer, accepted, deep-at, unknown-at, unexpected-at, end-at, runaway-at}
 use Rattle.meaning.specs.Meaning.{tree, Lawful, Begins, Passes, Refuses, Ends, Means, means-accepted, means-unexpected, means-unknown, means-end, told}
 use Rattle.meaning.proofs.Unique.{derivation-unique}
 
@@ -49,7 +50,7 @@ data Fate (b : Book) (xs : List ℕ) : Type 0 where
 -- the answer that says so, without the parts held
 answerOf : {b : Book} {xs : List ℕ} → Fate b xs → Answer
 answerOf {b} (lawful-so d) = accepted (tree (b .start) d)
-answerOf {b} {xs} (refused-so i r) = pick (ltb (getD xs i 0) (b .kinds)) (unexpected-at i []) (unknown-at i [])
+answerOf {b} {xs} (refused-so i r) = cond (ltb (getD xs i 0) (b .kinds)) (unexpected-at i []) (unknown-at i [])
 answerOf (ended-so i e) = end-at i []
 
 module _ {b : Book} (passes : Passes b) {xs : List ℕ} where

@@ -1,12 +1,12 @@
 -- Plans that agree below their count give the same readings: the held parts stay below the count.
 use mathlib.Core.Path.{_≡_, refl, sym, ap, ap₂, _∙_}
-use mathlib.Core.Bool.{Bool, true, false}
+use mathlib.Core.Bool.{Bool, true, false, cond}
 use mathlib.Core.List.{List, [], _∷_}
 use Prim.Native.Nat.{ℕ, zero, suc, _<_}
 use borrow.Author.Tests.{ltb-true}
 use lib.Dec.{ltb}
 use lib.ListN.{length}
-use Rattle.plan.specs.Running.{Plan, Step, taken, refused, deep, runaway, noted, emptied, pick, visit, takeOff, walk, event}
+use Rattle.plan.specs.Running.{Plan, Step, taken, refused, deep, runaway, noted, emptied, visit, takeOff, walk, event}
 use Rattle.plan.specs.Running.{Answer, logged, onward, finish, reads, reading, unknown-at, end-at}
 
 -- two plans agree in count, kinds, start and free slots, and below the count in left, right, cells and nullable marks
@@ -52,7 +52,7 @@ module _ {count : ℕ} {l r : ℕ} (left-below : l < count) (right-below : r < c
   visit-same (suc zero) same free-is = refl
   visit-same (suc (suc zero)) same free-is = same l held left-below below
   visit-same (suc (suc (suc zero))) same free-is =
-      ap₂ (λ (b : Bool) (s : Step). pick b s deep) (free-is (length held)) (same l (r ∷ held) left-below (one-held right-below below))
+      ap₂ (λ (b : Bool) (s : Step). cond b s deep) (free-is (length held)) (same l (r ∷ held) left-below (one-held right-below below))
   visit-same (suc (suc (suc (suc zero)))) same free-is = ap (noted (emptied l)) (same r held right-below below)
   visit-same (suc (suc (suc (suc (suc zero))))) same free-is = same r held right-below below
   visit-same (suc (suc (suc (suc (suc (suc c)))))) same free-is = refl
@@ -66,7 +66,7 @@ module _ {count : ℕ} {l r : ℕ} (left-below : l < count) (right-below : r < c
   visit-kept (suc (suc (suc zero))) free kept =
       slotted (free (length held)) (kept l (r ∷ held) left-below (one-held right-below below))
     where
-      slotted : (b : Bool) {s : Step} → Kept count s → Kept count (pick b s deep)
+      slotted : (b : Bool) {s : Step} → Kept count s → Kept count (cond b s deep)
       slotted true k = k
       slotted false k = kept-deep
   visit-kept (suc (suc (suc (suc zero)))) free kept = kept-noted (emptied l) (kept r held right-below below)
@@ -124,18 +124,18 @@ module _ {p q : Plan} (agree : Agree p q) where
   unfolding finish
   finish-same at before none-held = refl
   finish-same at before (one-held {n} small below) =
-      ap₂ (λ (b : Bool) (a : Answer). pick b (logged (emptied n ∷ []) a) (end-at at before)) (agree .null n small) (finish-same at before below)
+      ap₂ (λ (b : Bool) (a : Answer). cond b (logged (emptied n ∷ []) a) (end-at at before)) (agree .null n small) (finish-same at before below)
 
   pub reads-agree : (run : List ℕ) (at : ℕ) (held : List ℕ) → Below (p .count) held → reads p at held run ≡ reads q at held run
   unfolding reads
   reads-agree [] at held below = finish-same at held below
   reads-agree (k ∷ run) at held below =
       known (ltb k (p .kinds)) refl (λ h b. reads-agree run (suc at) h b)
-      ∙ ap (λ (n : ℕ). pick (ltb k n) (onward (event q k held) (λ h. reads q (suc at) h run) at held) (unknown-at at held)) (agree .kinds)
+      ∙ ap (λ (n : ℕ). cond (ltb k n) (onward (event q k held) (λ h. reads q (suc at) h run) at held) (unknown-at at held)) (agree .kinds)
     where
       known : (b : Bool) → ltb k (p .kinds) ≡ b → ((h : List ℕ) → Below (p .count) h → reads p (suc at) h run ≡ reads q (suc at) h run)
-          → pick b (onward (event p k held) (λ h. reads p (suc at) h run) at held) (unknown-at at held)
-          ≡ pick b (onward (event q k held) (λ h. reads q (suc at) h run) at held) (unknown-at at held)
+          → cond b (onward (event p k held) (λ h. reads p (suc at) h run) at held) (unknown-at at held)
+          ≡ cond b (onward (event q k held) (λ h. reads q (suc at) h run) at held) (unknown-at at held)
       known true is same =
           let kind = ltb-true k (p .kinds) is in
           onward-same (event-kept k kind below) _ _ same at held

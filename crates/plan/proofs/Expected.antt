@@ -1,12 +1,12 @@
 -- Plans that agree answer the same expected kinds: the parts that a refusal carries are below the count.
 use mathlib.Core.Path.{_≡_, refl, ap, ap₂, _∙_}
-use mathlib.Core.Bool.{Bool, true, false}
+use mathlib.Core.Bool.{Bool, true, false, cond}
 use mathlib.Core.List.{List, [], _∷_}
 use Prim.Native.Nat.{ℕ, zero, suc, _+_, _^_, _≤_, _<_}
 use native.Mathlib.Omega.{arith}
 use borrow.Author.Tests.{ltb-true}
 use lib.Dec.{ltb}
-use Rattle.plan.specs.Running.{Plan, Step, pick, event, Answer, accepted, deep-at, unknown-at, unexpected-at, end-at, runaway-at, emptied}
+use Rattle.plan.specs.Running.{Plan, Step, event, Answer, accepted, deep-at, unknown-at, unexpected-at, end-at, runaway-at, emptied}
 use Rattle.plan.specs.Running.{logged, onward, finish, reads, reading, takenCell, rowFirst, expected}
 use Rattle.plan.proofs.Agrees.{Agree, Below, none-held, one-held, Kept, kept-taken, kept-refused, kept-deep, kept-runaway, event-kept}
 
@@ -34,7 +34,7 @@ module _ {p q : Plan} (agree : Agree p q) where
   finish-carried at below [] = carried-accepted
   finish-carried at {before} below (n ∷ held) = chosen (p .null n) (finish-carried at below held)
     where
-      chosen : (b : Bool) {a : Answer} → Carried (p .count) a → Carried (p .count) (pick b (logged (emptied n ∷ []) a) (end-at at before))
+      chosen : (b : Bool) {a : Answer} → Carried (p .count) a → Carried (p .count) (cond b (logged (emptied n ∷ []) a) (end-at at before))
       chosen true carried = carried-logged _ carried
       chosen false carried = carried-end below
 
@@ -53,7 +53,7 @@ module _ {p q : Plan} (agree : Agree p q) where
   reads-carried (k ∷ run) at held below = known (ltb k (p .kinds)) refl (λ h b. reads-carried run (suc at) h b)
     where
       known : (b : Bool) → ltb k (p .kinds) ≡ b → ((h : List ℕ) → Below (p .count) h → Carried (p .count) (reads p (suc at) h run))
-          → Carried (p .count) (pick b (onward (event p k held) (λ h. reads p (suc at) h run) at held) (unknown-at at held))
+          → Carried (p .count) (cond b (onward (event p k held) (λ h. reads p (suc at) h run) at held) (unknown-at at held))
       known true is rest = onward-carried (event-kept agree k (ltb-true k (p .kinds) is) below) _ rest at below
       known false is rest = carried-unknown below
 

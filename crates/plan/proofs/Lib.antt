@@ -12,3 +12,4 @@ mod Rows
 mod Stored
 pub mod TableMarks
 pub mod Writing
+pub mod Records

@@ -21,7 +21,7 @@ use Rattle.book.proofs.Decoded.{Formed, formed, nodes-below}
 use Rattle.plan.specs.Cells.{Marks, cellOf}
 use Rattle.plan.specs.Form.{planNodesAt, planSettingsAt, rowAt, planCount, planKinds, planStart, planOf, planFrom, cellAt, oneCell, otherCell}
 use Rattle.plan.specs.Form.{columnGood, sizeGood, planContentsGood, planNodesGood, planGood, cellsJudged, planJudged}
-use Rattle.plan.specs.Running.{pick, reading}
+use Rattle.plan.specs.Running.{reading}
 use Rattle.plan.specs.Bytes.{planBytes, planFor}
 use Rattle.plan.proofs.Agrees.{Agree, reading-agrees}
 use Rattle.plan.proofs.Children.{left-below, right-below}
@@ -34,7 +34,7 @@ abbrev Has : ℕ → ℕ → ℕ → Type 0
 Has one other cell = (eqb cell 0 || eqb cell one || eqb cell other) ≡ true
 
 -- either of two cells, by a test
-chosen : (P : ℕ → Type 0) (b : Bool) {x y : ℕ} → P x → P y → P (pick b x y)
+chosen : (P : ℕ → Type 0) (b : Bool) {x y : ℕ} → P x → P y → P (cond b x y)
 chosen P true x y = x
 chosen P false x y = y
 

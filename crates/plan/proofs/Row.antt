@@ -10,11 +10,10 @@ use Rattle.book.specs.declared.Node.{Node}
 use Rattle.book.specs.declared.Node.the-variants.{Fail, Empty, Token, Either, Then, Tagged, Ref}
 use Rattle.plan.specs.Cells.{Marks, cellOf}
 use Rattle.plan.specs.Form.{oneCell}
-use Rattle.plan.specs.Running.{pick}
 use Rattle.plan.specs.Bytes.{valuesFrom, rowOf}
 use Rattle.plan.specs.Table.{nullSet, firstSet, marksOf, farCell, cellBy, rowBy}
 
-same-cells : (first left : Bool) (cell : ℕ) → cond first (cond left cell cell) 0 ≡ pick first cell 0
+same-cells : (first left : Bool) (cell : ℕ) → cond first (cond left cell cell) 0 ≡ cond first cell 0
 same-cells true true cell = refl
 same-cells true false cell = refl
 same-cells false left cell = refl
@@ -24,12 +23,12 @@ no-cells true true = refl
 no-cells true false = refl
 no-cells false left = refl
 
-either-cells : (first left : Bool) → cond {A = ℕ} first (cond left 2 5) 0 ≡ pick first (pick left 2 5) 0
+either-cells : (first left : Bool) → cond {A = ℕ} first (cond left 2 5) 0 ≡ cond first (cond left 2 5) 0
 either-cells true true = refl
 either-cells true false = refl
 either-cells false left = refl
 
-then-cells : (first left null : Bool) → cond {A = ℕ} first (cond left 3 (cond null 4 3)) 0 ≡ pick first (pick (null && not left) 4 3) 0
+then-cells : (first left null : Bool) → cond {A = ℕ} first (cond left 3 (cond null 4 3)) 0 ≡ cond first (cond (null && not left) 4 3) 0
 then-cells true true true = refl
 then-cells true true false = refl
 then-cells true false true = refl

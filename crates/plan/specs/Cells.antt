@@ -1,12 +1,11 @@
 -- The cells of a plan's rows, by the rules.
 use Prim.Native.Nat.{ℕ}
 use mathlib.Core.Path.{_≡_}
-use mathlib.Core.Bool.{Bool, true, false, not, _&&_}
+use mathlib.Core.Bool.{Bool, true, false, not, _&&_, cond}
 use mathlib.Core.Logic.{_↔_}
 use Rattle.book.specs.declared.Node.{Node}
 use Rattle.book.specs.declared.Node.the-variants.{Fail, Empty, Token, Either, Then, Tagged, Ref}
 use Rattle.rules.specs.Rules.{First, Nullable}
-use Rattle.plan.specs.Running.{pick}
 
 -- marks for every node: the kinds in its FIRST set, and whether it is nullable
 pub record Marks : Type 0 where
@@ -23,8 +22,8 @@ pub record Marked (node : ℕ → Node) (marks : Marks) : Type 0 where
 unfoldable pub cellOf : Marks → ℕ → ℕ → Node → ℕ
 cellOf marks k n Fail = 0
 cellOf marks k n Empty = 0
-cellOf marks k n (Token j) = pick (marks .first n k) 1 0
-cellOf marks k n (Either l r) = pick (marks .first n k) (pick (marks .first l k) 2 5) 0
-cellOf marks k n (Then l r) = pick (marks .first n k) (pick (marks .null l && not (marks .first l k)) 4 3) 0
-cellOf marks k n (Tagged l t) = pick (marks .first n k) 2 0
-cellOf marks k n (Ref l) = pick (marks .first n k) 2 0
+cellOf marks k n (Token j) = cond (marks .first n k) 1 0
+cellOf marks k n (Either l r) = cond (marks .first n k) (cond (marks .first l k) 2 5) 0
+cellOf marks k n (Then l r) = cond (marks .first n k) (cond (marks .null l && not (marks .first l k)) 4 3) 0
+cellOf marks k n (Tagged l t) = cond (marks .first n k) 2 0
+cellOf marks k n (Ref l) = cond (marks .first n k) 2 0

@@ -1,7 +1,7 @@
 -- Running a plan, sentence by sentence as document 01 has it, for any cells, forged ones too. The list of held parts has the part
 -- held last in front.
 use Prim.Native.Nat.{ℕ, zero, suc, _+_, _^_}
-use mathlib.Core.Bool.{Bool, true, false}
+use mathlib.Core.Bool.{Bool, true, false, cond}
 use mathlib.Core.List.{List, [], _∷_, _++_}
 use lib.Dec.{ltb}
 use lib.ListN.{length}
@@ -36,18 +36,13 @@ noted r refused = refused
 noted r deep = deep
 noted r runaway = runaway
 
--- one of two, by a test
-abbrev pub pick {ℓ} : {A : Type ℓ} → Bool → A → A → A
-pick true a b = a
-pick false a b = b
-
 -- what a cell says at a node, given how the walk goes on from a node with parts held: 1 take the event, 2 go left, 3 hold right and
 -- go left, 4 write an empty record for left and go right, 5 go right; any other refuses the event
 unfoldable pub visit : ℕ → (ℕ → List ℕ → Step) → (ℕ → Bool) → ℕ → ℕ → List ℕ → Step
 visit zero go free l r held = refused
 visit (suc zero) go free l r held = taken held []
 visit (suc (suc zero)) go free l r held = go l held
-visit (suc (suc (suc zero))) go free l r held = pick (free (length held)) (go l (r ∷ held)) deep
+visit (suc (suc (suc zero))) go free l r held = cond (free (length held)) (go l (r ∷ held)) deep
 visit (suc (suc (suc (suc zero)))) go free l r held = noted (emptied l) (go r held)
 visit (suc (suc (suc (suc (suc zero))))) go free l r held = go r held
 visit (suc (suc (suc (suc (suc (suc c)))))) go free l r held = refused
@@ -104,13 +99,13 @@ module _ (p : Plan) where
   -- the end: all held parts are taken off in turn; each must be nullable by its row and writes one empty record
   unfoldable pub finish : ℕ → List ℕ → List ℕ → Answer
   finish at before [] = accepted []
-  finish at before (n ∷ held) = pick (p .null n) (logged (emptied n ∷ []) (finish at before held)) (end-at at before)
+  finish at before (n ∷ held) = cond (p .null n) (logged (emptied n ∷ []) (finish at before held)) (end-at at before)
 
   -- a run from a place on, with these parts held
   unfoldable pub reads : ℕ → List ℕ → List ℕ → Answer
   reads at held [] = finish at held held
   reads at held (k ∷ run) =
-      pick (ltb k (p .kinds)) (onward (event p k held) (λ h. reads (suc at) h run) at held) (unknown-at at held)
+      cond (ltb k (p .kinds)) (onward (event p k held) (λ h. reads (suc at) h run) at held) (unknown-at at held)
 
   -- a whole run: the list of held parts begins with the start node
   unfoldable pub reading : List ℕ → Answer

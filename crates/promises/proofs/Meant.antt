@@ -14,6 +14,7 @@ use Rattle.book.proofs.Decoded.{formed, well-formed}
 use Rattle.plan.specs.Bytes.{planBytes, planFor}
 use Rattle.plan.specs.Form.{planOf, planJudged}
 use Rattle.plan.specs.Running.{Plan, accepted, reading}
+use Rattle.plan.proofs.Records.{records-few, records-events, records-empty}
 use Rattle.plan.proofs.PlanDone.{plan-done, plan-reads}
 use Rattle.compiler.specs.declared.Compiled.{Compiled}
 use Rattle.compiler.specs.Compiles.{Compiles}
@@ -23,7 +24,6 @@ use Rattle.reader.proofs.Answers.{read-told, records-counted}
 use Rattle.reader.proofs.Settles.{read-runs}
 use Rattle.meaning.specs.Meaning.{Passes}
 use Rattle.meaning.specs.Plans.{freePlan}
-use Rattle.meaning.proofs.Records.{records-bound, records-events, records-empty}
 use Rattle.meaning.proofs.Slots.{slots-free}
 use Rattle.meaning.proofs.Theorem.{reading-means}
 use Rattle.promises.specs.Promises.{slotsEnough, roomEnough, ReadsAsMeant, FewRecords}
@@ -34,14 +34,14 @@ few-records : (p : Plan) (run : List ℕ) {records : List ℕ} → 0 < p .count 
     → FewRecords (p .count) (length run) (length records)
 few-records p [] {records} some e =
     record {
-      sharp = records-bound p [] records e;
+      sharp = records-few p [] e;
       some-events = λ events. absurd (omega arith);
-      no-events = λ none. ap length (records-empty p records e);
+      no-events = λ none. ap length (records-empty p e);
     }
 few-records p (k ∷ run) {records} some e =
     record {
-      sharp = records-bound p (k ∷ run) records e;
-      some-events = λ events. records-events p (k ∷ run) records some events e;
+      sharp = records-few p (k ∷ run) e;
+      some-events = λ events. records-events p (k ∷ run) some events e;
       no-events = λ none. absurd (omega arith);
     }
 
@@ -81,7 +81,7 @@ module _ {bytes : List ℕ} {room : ℕ} {a : Compiled} {plan : List ℕ} (compi
       )
       (reads-as-meant passed-passes (planOf written (λ n. ltb n slots)) tree-room
       (reading-means passed-passes (known .marks) (known .marked) run)
-      (λ records e. let few = records-bound (freePlan (bookOf bytes) (known .marks)) run records e in omega arith))
+      (λ records e. let few = records-few (freePlan (bookOf bytes) (known .marks)) run e in omega arith))
 
   pub passed-records : (run : List ℕ) (slots tree-room : ℕ) → readOf (take (a .size) plan) run slots tree-room .reading .number ≡ DONE
       → FewRecords (bookOf bytes .count) (length run) (readOf (take (a .size) plan) run slots tree-room .reading .records)

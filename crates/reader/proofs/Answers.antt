@@ -19,7 +19,7 @@ use Rattle.reader.specs.declared.Reading.{Reading}
 use Rattle.reader.specs.Numbers.{LONG, DEEP, UNKNOWN, UNEXPECTED, END, RUNAWAY, NO-ROOM}
 use Rattle.reader.specs.Machine.{answered}
 use Rattle.reader.specs.Reads.{Outcome, Reads, bare, acceptedOf, outcomeOf, runOf, readOf}
-use Rattle.reader.proofs.Records.{records-few}
+use Rattle.plan.proofs.Records.{records-few}
 
 -- the answer and what is left of the buffers are determined
 pub reads-unique : {plan run held tree : List ℕ} {answer answer′ : Reading} {held-after held-after′ tree-after tree-after′ : List ℕ}

@@ -4,7 +4,7 @@ use mathlib.Core.Bool.{Bool, true, false, cond}
 use mathlib.Core.List.{List, [], _∷_, _++_, append-assoc}
 use Prim.Native.Nat.{ℕ, suc}
 use lib.Dec.{ltb}
-use Rattle.plan.specs.Running.{Plan, Step, taken, refused, deep, runaway, event, Answer, accepted, deep-at, unknown-at, unexpected-at, end-at, runaway-at, logged, onward, finish, reads, reading, pick}
+use Rattle.plan.specs.Running.{Plan, Step, taken, refused, deep, runaway, event, Answer, accepted, deep-at, unknown-at, unexpected-at, end-at, runaway-at, logged, onward, finish, reads, reading}
 use Rattle.reader.specs.Steps.{Progress, going, stopped, advanced, step, steps, closed, begun}
 
 -- records written in two turns
@@ -49,7 +49,7 @@ module _ (p : Plan) where
     onward-steps runaway = ends written run (runaway-at at) refl
 
     known-steps : (known : Bool) (s : Step)
-        → logged written (pick known (onward s (λ h. reads p (suc at) h run) at held) (unknown-at at held))
+        → logged written (cond known (onward s (λ h. reads p (suc at) h run) at held) (unknown-at at held))
         ≡ closed p (steps p (cond known (advanced s at held written) (stopped (unknown-at at held))) run)
     unfolding logged
     known-steps true s = onward-steps s

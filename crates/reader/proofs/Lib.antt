@@ -1,6 +1,5 @@
 pub mod Slots
 pub mod Simulation
-pub mod Records
 pub mod Runs
 pub mod Plans
 mod Walks

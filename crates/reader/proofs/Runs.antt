@@ -10,12 +10,12 @@ use lib.Dec.{ltb, eqb}
 use lib.ListN.{length, getD, set, length-append}
 use lib.Seq.{sets}
 use Rattle.book.specs.Form.{DONE}
-use Rattle.plan.specs.Running.{Plan, emptied, Step, taken, refused, deep, runaway, pick, event, expected, Answer, accepted, deep-at, unknown-at, unexpected-at, end-at, runaway-at, logged, onward, finish, reads}
+use Rattle.plan.specs.Running.{Plan, emptied, Step, taken, refused, deep, runaway, event, expected, Answer, accepted, deep-at, unknown-at, unexpected-at, end-at, runaway-at, logged, onward, finish, reads}
 use Rattle.reader.specs.Numbers.{DEEP, UNKNOWN, UNEXPECTED, END, RUNAWAY}
 use Rattle.reader.specs.Machine.{After, Held, Ended, stands, answered, refusal, ended, stack, takeOf, eventOf, onOf, finishOf, closeOf, readsOf}
 use Rattle.reader.proofs.Slots.{stack-length, held-less}
 use Rattle.reader.proofs.Simulation.{Took, Stepped, as-taken, as-refused, as-deep, as-runaway, Bounded, take-same}
-use Rattle.reader.proofs.Records.{Within, taken-within, refused-within, deep-within, runaway-within, within-more, event-within}
+use Rattle.plan.proofs.Records.{Within, taken-within, refused-within, deep-within, runaway-within, within-more, event-within}
 
 -- records stored after records are stored together
 pub sets-append : (tree : List ℕ) (written : ℕ) (records more : List ℕ)
@@ -88,7 +88,7 @@ module _ (p : Plan) where
         by-null : (null : Bool)
             → Ends (set tree written (emptied n)) (suc written) at (finish p at before (stack held count))
             (onOf (finishOf p count (suc written) held (set tree written (emptied n))) (λ c w h t. ended (answered DONE at w 0) h t) at (expected p before))
-            → Ends tree written at (pick null (logged (emptied n ∷ []) (finish p at before (stack held count))) (end-at at before))
+            → Ends tree written at (cond null (logged (emptied n ∷ []) (finish p at before (stack held count))) (end-at at before))
             (onOf (cond null (finishOf p count (suc written) held (set tree written (emptied n))) (stands END count written held tree)) (λ c w h t. ended (answered DONE at w 0) h t) at (expected p before))
         by-null true rest = ends-logged (emptied n ∷ []) (rw (add-one written) rest)
         by-null false rest = as-end-at refl
@@ -107,7 +107,7 @@ module _ (p : Plan) where
         by-kind : (known : Bool)
             → ((c w : ℕ) (h′ t : List ℕ) → Held (p .count) slots h′ c → Ends t w (at + suc (length run)) (reads p (suc at) (stack h′ c) run) (readsOf p (suc at) run c w h′ t))
             → Ends tree written (at + suc (length run))
-            (pick known (onward (event p k (stack held count)) (λ l. reads p (suc at) l run) at (stack held count)) (unknown-at at (stack held count)))
+            (cond known (onward (event p k (stack held count)) (λ l. reads p (suc at) l run) at (stack held count)) (unknown-at at (stack held count)))
             (onOf (cond known (takeOf p k count written held tree) (stands UNKNOWN count written held tree)) (λ c w h′ t. readsOf p (suc at) run c w h′ t) at (expected p (stack held count)))
         by-kind true rest =
             on-same at (stack held count) (λ l. reads p (suc at) l run) (λ c w h′ t. readsOf p (suc at) run c w h′ t) rest (take-same p slots b k count written held tree h)

@@ -9,7 +9,7 @@ use lib.Dec.{ltb, eqb}
 use lib.ListN.{length, getD, set, length-append}
 use lib.Seq.{sets}
 use Rattle.book.specs.Form.{DONE}
-use Rattle.plan.specs.Running.{Plan, emptied, Step, taken, refused, deep, runaway, noted, pick, visit, takeOff, walk, event}
+use Rattle.plan.specs.Running.{Plan, emptied, Step, taken, refused, deep, runaway, noted, visit, takeOff, walk, event}
 use Rattle.reader.specs.Numbers.{DEEP, UNKNOWN, UNEXPECTED, END, RUNAWAY}
 use Rattle.reader.specs.Machine.{After, Held, Go, stands, stack, visitOf, offOf, walkOf, takeOf, eventOf}
 use Rattle.reader.proofs.Slots.{stack-length, stack-held, held-more, held-less}
@@ -71,7 +71,7 @@ module _ (p : Plan) (slots : ℕ) (b : Bounded p slots) where
         rw (b .frees (length (stack held count)), stack-length held count, h .long) (by-slot (ltb count slots) refl)
       where
         by-slot : (free : Bool) → ltb count slots ≡ free
-            → Stepped (p .count) slots tree written (pick free (go l (r ∷ stack held count)) deep)
+            → Stepped (p .count) slots tree written (cond free (go l (r ∷ stack held count)) deep)
             (cond free (goes l (suc count) written (set held count r) tree) (stands DEEP count written held tree))
         by-slot true e =
             let inside : count < slots = ltb-true count slots e in

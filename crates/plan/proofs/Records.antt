@@ -1,13 +1,13 @@
 -- How many records a reading writes, of any plan: at most (2N − 2) · events + 1.
 use mathlib.Core.Path.{_≡_, refl, subst}
-use mathlib.Core.Bool.{Bool, true, false}
+use mathlib.Core.Bool.{Bool, true, false, cond}
 use mathlib.Core.List.{List, [], _∷_, _++_}
 use Prim.Native.Nat.{ℕ, zero, suc, _+_, _*_, _-_, _≤_, _<_}
 use native.Mathlib.Nat.{mul-suc, mul-zero, zero-add}
 use native.Mathlib.Omega.{arith}
 use lib.Dec.{ltb}
 use lib.ListN.{length, length-append}
-use Rattle.plan.specs.Running.{Plan, emptied, Step, taken, refused, deep, runaway, noted, pick, visit, takeOff, walk, event, Answer, accepted, deep-at, unknown-at, unexpected-at, end-at, runaway-at, logged, onward, finish, reads, reading}
+use Rattle.plan.specs.Running.{Plan, emptied, Step, taken, refused, deep, runaway, noted, visit, takeOff, walk, event, Answer, accepted, deep-at, unknown-at, unexpected-at, end-at, runaway-at, logged, onward, finish, reads, reading}
 
 -- the records of an event and the parts then held are fewer than a number
 pub data Within (b : ℕ) : Step → Type 0 where
@@ -38,7 +38,7 @@ visit-within left go goes (suc zero) free l r held = taken-within held [] (omega
 visit-within left go goes (suc (suc zero)) free l r held = within-more _ (omega arith) (goes l held)
 visit-within left go goes (suc (suc (suc zero))) free l r held = by-slot (free (length held))
   where
-    by-slot : (yes-free : Bool) → Within (suc (length held + 2 * left)) (pick yes-free (go l (r ∷ held)) deep)
+    by-slot : (yes-free : Bool) → Within (suc (length held + 2 * left)) (cond yes-free (go l (r ∷ held)) deep)
     by-slot true = within-more _ (omega arith) (goes l (r ∷ held))
     by-slot false = deep-within
 visit-within left go goes (suc (suc (suc (suc zero)))) free l r held = within-noted (emptied l) (goes r held)
@@ -92,7 +92,7 @@ module _ (p : Plan) where
   finish-few at before (n ∷ held) = by-null (p .null n) (finish-few at before held)
     where
       by-null : (null : Bool) → Few (length held) (finish p at before held)
-          → Few (suc (length held)) (pick null (logged (emptied n ∷ []) (finish p at before held)) (end-at at before))
+          → Few (suc (length held)) (cond null (logged (emptied n ∷ []) (finish p at before held)) (end-at at before))
       by-null true rest = few-logged _ (emptied n ∷ []) (omega arith) rest
       by-null false rest = end-few
 
@@ -118,7 +118,7 @@ module _ (p : Plan) where
       by-step before le runaway-within rest = runaway-few
 
       by-kind : (known : Bool) (parts : List ℕ) → ((h : List ℕ) → Few (most (length h) run) (reads p (suc at) h run))
-          → Few (most (length parts) (k ∷ run)) (pick known (onward (event p k parts) (λ h. reads p (suc at) h run) at parts) (unknown-at at parts))
+          → Few (most (length parts) (k ∷ run)) (cond known (onward (event p k parts) (λ h. reads p (suc at) h run) at parts) (unknown-at at parts))
       by-kind true [] rest = unexpected-few
       by-kind true (n ∷ parts) rest = by-step (n ∷ parts) (omega arith) (event-within k n parts) rest
       by-kind false parts rest = unknown-few
@@ -130,3 +130,21 @@ module _ (p : Plan) where
     where
       counted : {b : ℕ} {records : List ℕ} → Few b (accepted records) → length records ≤ b
       counted (accepted-few records few) = few
+
+  -- so at most twice the node count less one, times the events, where there are some
+  pub records-events : (run : List ℕ) {records : List ℕ} → 0 < p .count → 0 < length run → reading p run ≡ accepted records
+      → length records ≤ (2 * p .count - 1) * length run
+  records-events run some-node some-event e =
+      let few = records-few run e in
+      let one-more : 2 * p .count - 1 ≡ suc (2 * p .count - 2) = omega arith in
+      rw one-more (omega arith)
+
+  -- and one for the empty run
+  pub records-empty : {records : List ℕ} → reading p [] ≡ accepted records → records ≡ emptied (p .start) ∷ []
+  unfolding reading reads finish logged
+  records-empty {records} e = go (p .null (p .start)) e
+    where
+      go : (null : Bool) → cond null (accepted (emptied (p .start) ∷ [])) (end-at 0 (p .start ∷ [])) ≡ accepted records
+          → records ≡ emptied (p .start) ∷ []
+      go true is = cc
+      go false is = cc
