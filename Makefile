@@ -5,9 +5,10 @@ WARNINGS = -std=c11 -Wall -Wextra -Werror
 ARCHIVE = target/staticlib/libdrumbook.a
 EXAMPLES = target/examples
 PREFIX ?= /usr/local
+SECONDS ?= 60
 VERSION = 0.1.0
 
-.PHONY: run test archive listing bench install clean
+.PHONY: run test archive listing bench fuzz install clean
 .SECONDARY:
 
 # the listing program on the rinse book and the run 0 1 2
@@ -39,6 +40,10 @@ $(EXAMPLES)/%: host/%.c host/rinse.h host/words.h include/drumbook.h $(ARCHIVE)
 # measures the archive against the plain C compiler and reader of bench/, and writes docs/BENCHMARKS.md
 bench: archive
 	@CC=$(CC) scripts/bench
+
+# random and damaged inputs against the independent implementations; prints the seed, and at a failure the smallest failing input
+fuzz: archive listing
+	@CARGO_TARGET_DIR=$(CURDIR)/target/host cargo run --quiet --offline --manifest-path host/Cargo.toml --bin fuzz -- --seconds $(SECONDS)
 
 # the header, the archive and a pkg-config file, below PREFIX
 install: archive
