@@ -24,6 +24,16 @@ mod tests {
     use meaning::{all_runs, Check};
     use read::read;
 
+    /// The large shapes keep to the form of a book.
+    #[test]
+    fn large_books_are_well_formed() {
+        let mut random = books::random::Random::new(1);
+        for _ in 0..20_000 {
+            let book = books::shapes::large_book(&mut random);
+            assert_eq!(form(&book.bytes()).number, DONE, "of {book:?}");
+        }
+    }
+
     /// The worked books and damaged copies of the rinse book.
     #[test]
     fn worked_forms() {

@@ -161,7 +161,7 @@ impl Maker<'_> {
 
     /// Adds now and then some nodes that the shape does not use.
     fn unreachable(&mut self) {
-        if self.random.once_in(4) {
+        if self.nodes.len() < ENOUGH && self.random.once_in(4) {
             let count = self.random.within(1, 4);
             self.loose(count);
         }
@@ -268,9 +268,12 @@ impl Maker<'_> {
         (turned, rest)
     }
 
-    /// Adds a rule: alternatives that begin with different kinds, now and then an empty one.
+    /// Adds a rule: alternatives that begin with different kinds, now and then an empty one; past enough nodes just a token.
     fn rule(&mut self, heads: &[u16]) -> u16 {
         let first = self.kind();
+        if self.nodes.len() > ENOUGH {
+            return self.add(TOKEN, first, 0);
+        }
         let alternatives = self.random.within(1, 3).min(usize::from(self.kinds));
         let mut whole = None;
         for number in 0..alternatives as u16 {
