@@ -1,6 +1,6 @@
 -- What a set has, by how it was made; two sets with the same kinds are one; the lowest kind.
 use Prim.Native.Nat.{ℕ, zero, suc, _+_, _-_, _*_, _/_, _%_, _^_, _≤_, _<_, min, max}
-use mathlib.Core.Path.{_≡_, refl, sym, ap, _∙_}
+use mathlib.Core.Path.{_≡_, refl, sym, ap, subst, _∙_}
 use mathlib.Core.Logic.{_↔_, _≢_, _⊎_, inl, inr, ⊎-elim, Iff·trans}
 use mathlib.Core.Bool.{true}
 use native.Mathlib.Nat.{mod-lt, div-eq-of-lt, div-self, lt-of-lt-of-le, pow-suc}
@@ -8,10 +8,10 @@ use native.Mathlib.Decide.{ℕ-discrete, decLt}
 use native.Mathlib.Omega.{arith}
 use borrow.Author.Tests.{eqb-true, eq-eqb}
 use lib.Dec.{lit<}
-use lib.Pow.{pow-mono, pow-pos, shr-shr, ones-split, ones-lt, high}
-use lib.Bits.{bitAnd, bitOr, and-shr, or-shr, and-step, or-step, and-le-r}
+use lib.Pow.{pow-mono, pow-lt, pow-pos, shr-shr, ones-split, ones-lt, high}
+use lib.Bits.{bitAnd, bitOr, bitXor, differ, and-shr, or-shr, xor-shr, and-step, or-step, xor-step, xor-lt, and-le-r}
 use lib.Count.{trailingZeros, under, trailing-of-zero}
-use Rattle.kinds.specs.Kinds.{Has, has?, everyKind, onlyKind, joined, inBoth, lowestKind, Lowest}
+use Rattle.kinds.specs.Kinds.{Has, has?, everyKind, onlyKind, joined, inBoth, withoutKind, lowestKind, Lowest}
 
 -- the test decides
 pub has?-is : (mask k : ℕ) → (has? mask k ≡ true) ↔ Has mask k
@@ -96,6 +96,39 @@ has-shared a b k = (
   (λ h. record { bit = omega (arith, h .0 .bit, h .1 .bit, and-bit a b k) }),
 )
 
+-- the digits of a bit that a set has not, and of one that it has
+differ-none : (x y : ℕ) → y ≡ 0 → differ x y ≡ x
+differ-none zero y e = e
+differ-none (suc x) y e = rw e
+
+xor-bit : (a b k : ℕ) → bitXor a b / 2 ^ k % 2 ≡ differ (a / 2 ^ k % 2) (b / 2 ^ k % 2)
+xor-bit a b k = omega (arith, xor-shr a b k, xor-step (a / 2 ^ k) (b / 2 ^ k), small (a / 2 ^ k % 2) (b / 2 ^ k % 2) (mod-lt _ {m = 2} (lit< tt)) (mod-lt _ {m = 2} (lit< tt)))
+  where
+    small : (x y : ℕ) → x < 2 → y < 2 → differ x y < 2
+    small zero y hx hy = hy
+    small (suc x) zero hx hy = hx
+    small (suc x) (suc y) hx hy = small x y (omega arith) (omega arith)
+
+-- a set without one of its kinds has all its others
+pub has-without : {mask k : ℕ} → Has mask k → (j : ℕ) → Has (withoutKind mask k) j ↔ (Has mask j × (j ≢ k))
+has-without {mask} {k} has j = go (ℕ-discrete j k)
+  where
+    bit-is : withoutKind mask k / 2 ^ j % 2 ≡ differ (mask / 2 ^ j % 2) (onlyKind k / 2 ^ j % 2)
+    bit-is = xor-bit mask (onlyKind k) j
+
+    go : Dec (j ≡ k) → Has (withoutKind mask k) j ↔ (Has mask j × (j ≢ k))
+    go (yes e) = ((λ h. absurd (omega (arith, h .bit, gone))), (λ p. absurd (p .1 e)))
+      where
+        gone : withoutKind mask k / 2 ^ j % 2 ≡ 0
+        gone = bit-is ∙ rw (rw (← e) at (has .bit), has-single j k .1 e .bit) refl
+    go (no other) = ((λ h. (record { bit = sym stays ∙ h .bit }, other)), (λ p. record { bit = stays ∙ p .0 .bit }))
+      where
+        alone : onlyKind k / 2 ^ j % 2 ≢ 1
+        alone e = other (has-single j k .0 (record { bit = e }))
+
+        stays : withoutKind mask k / 2 ^ j % 2 ≡ mask / 2 ^ j % 2
+        stays = bit-is ∙ differ-none _ _ (omega (arith, alone, mod-lt (onlyKind k / 2 ^ j) {m = 2} (lit< tt)))
+
 -- ---- sets by their kinds
 
 same-bits : (width a b : ℕ) → a < 2 ^ width → b < 2 ^ width → ((k : ℕ) → Has a k ↔ Has b k) → a ≡ b
@@ -127,6 +160,16 @@ pub more-kinds : {a b : ℕ} → a < 2 ^ 64 → b < 2 ^ 64 → ((k : ℕ) → Ha
 more-kinds {a} {b} ha hb more differ =
     let e : inBoth a b ≡ a = same-kinds (omega (arith, and-le-r a b)) ha (λ k. ((λ h. has-shared a b k .0 h .0), (λ h. has-shared a b k .1 (h, more k h)))) in
     omega (arith, and-le-r a b, differ)
+
+-- a set without one of its kinds is the smaller number
+pub without-less : {mask k : ℕ} → mask < 2 ^ 64 → Has mask k → withoutKind mask k < mask
+without-less {mask} {k} small has =
+    more-kinds (xor-lt 64 mask (onlyKind k) small (inside (decLt k 64))) small (λ j h. has-without has j .0 h .0)
+    (λ e. has-without has k .0 (subst (λ (m : ℕ). Has m k) (sym e) has) .1 refl)
+  where
+    inside : Dec (k < 64) → 2 ^ k < 2 ^ 64
+    inside (yes l) = pow-lt l
+    inside (no f) = absurd (beyond 64 small (omega arith) has)
 
 -- ---- the lowest kind
 

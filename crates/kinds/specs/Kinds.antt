@@ -4,7 +4,7 @@ use mathlib.Core.Path.{_≡_}
 use mathlib.Core.Logic.{_≢_}
 use mathlib.Core.Bool.{Bool}
 use lib.Dec.{eqb}
-use lib.Bits.{bitAnd, bitOr}
+use lib.Bits.{bitAnd, bitOr, bitXor}
 use lib.Count.{trailingZeros}
 
 -- the set has the kind
@@ -30,6 +30,10 @@ joined a b = bitOr a b
 -- the kinds of both sets
 abbrev pub inBoth : ℕ → ℕ → ℕ
 inBoth a b = bitAnd a b
+
+-- a set without one of its kinds
+abbrev pub withoutKind : ℕ → ℕ → ℕ
+withoutKind mask k = bitXor mask (onlyKind k)
 
 -- the lowest kind of a set, 64 for the empty set
 unfoldable pub lowestKind : ℕ → ℕ

@@ -1,7 +1,7 @@
 // Sets of kinds as 64-bit masks.
 ghost use Prim.Native.Nat.{_<_};
 ghost use mathlib.Core.Path.{_≡_};
-ghost use Rattle.kinds.specs.Kinds.{has?, everyKind, onlyKind, joined, inBoth, lowestKind};
+ghost use Rattle.kinds.specs.Kinds.{has?, everyKind, onlyKind, joined, inBoth, withoutKind, lowestKind};
 
 // The set of all kinds.
 pub fn every() -> u64
@@ -38,6 +38,14 @@ pub fn shared(a: u64, b: u64) -> u64
     ensures { λ r. ⌜ r ≡ inBoth a b ⌝ }
 {
     a & b
+}
+
+// A set without one of its kinds.
+pub fn without(set: u64, kind: usize) -> u64
+    requires { ⌜ kind < 64 ⌝ }
+    ensures { λ r. ⌜ r ≡ withoutKind set kind ⌝ }
+{
+    set ^ single(kind)
 }
 
 // The lowest kind of a set, 64 for the empty set.

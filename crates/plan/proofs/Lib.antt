@@ -9,6 +9,7 @@ pub mod PlanBytes
 pub mod PlanDone
 mod Row
 mod Rows
+mod Sparse
 mod Stored
 pub mod TableMarks
 pub mod Writing

@@ -5,7 +5,7 @@ use mathlib.Core.List.{List, _++_, append-assoc}
 use Prim.Native.Nat.{ℕ, _+_, _*_, _-_, _≤_, _<_}
 use native.Mathlib.Omega.{arith}
 use lib.ListN.{length, drop, length-drop, length-append}
-use lib.Seq.{sets}
+use lib.Seq.{sets, length-sets}
 use Rattle.kinds.specs.Kinds.{has?}
 use Rattle.words.specs.Words.{u16At, zeros}
 use Rattle.book.specs.Book.{leftOf}
@@ -16,12 +16,13 @@ use Rattle.book.proofs.Decoded.{Formed, formed, nodes-below}
 use Rattle.plan.specs.Cells.{Marks}
 use Rattle.plan.specs.Form.{rowsAt, rowAt, planSize, oneCell}
 use Rattle.plan.specs.Bytes.{listsFrom, planContents, rowOf, rowsOf, planBytes}
-use Rattle.plan.specs.Table.{nullSet, firstSet, marksOf, farCell, rowBy, Writable}
+use Rattle.plan.specs.Table.{nullSet, firstSet, marksOf, farCell, rowBy, Writable, ClearFrom}
 use Rattle.plan.proofs.Children.{left-below}
 use Rattle.plan.proofs.Laws.{size-small}
 use Rattle.plan.proofs.PlanBytes.{length-contents, length-row, size-is}
 use Rattle.plan.proofs.Row.{row-by}
 use Rattle.plan.proofs.Rows.{row-within}
+use Rattle.plan.proofs.Sparse.{clear-zeros, clear-behind}
 use Rattle.plan.proofs.Stored.{sets-then, sets-zeros}
 
 -- a buffer of the same length serves as well
@@ -73,6 +74,17 @@ module _ {book table plan : List ℕ} {count kinds : ℕ} (w : Writable book tab
     unfolding bookOf
     row-is left-is near-is far-is skip-is mark-is =
         rw (mark-is, far-is, skip-is, near-is, left-is, ← looked-up, w .kinds-is) (row-by table count n below (bookOf book) (rw looked-up left-small))
+
+  -- contents, settings and nodes stored in a clear buffer leave it clear where the rows begin
+  pub rows-ready : {one two : List ℕ} → plan ≡ zeros (length plan) → one ≡ sets plan 0 (planContents count kinds) → two ≡ sets one 20 (drop 14 book)
+      → Writable book table two count kinds × ClearFrom two (rowsAt count)
+  rows-ready {one} {two} clear first second = (
+    writable-kept (ap length second ∙ length-sets one 20 (drop 14 book) ∙ ap length first ∙ length-sets plan 0 (planContents count kinds)) w,
+    clear-behind (drop 14 book)
+        (clear-behind {behind = 20} (planContents count kinds) (clear-zeros (length plan) 0 clear) first (omega (arith, length-contents count kinds)))
+        second
+        (omega (arith, length-drop 14 book, book-formed .size .is, w .count-is)),
+  )
 
   -- contents, settings and nodes, and rows, stored one behind the other in a cleared buffer, are the plan and zeros behind it
   module _ (marks : Marks) where

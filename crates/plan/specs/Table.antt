@@ -54,3 +54,7 @@ pub record Writable (book table plan : List ℕ) (count kinds : ℕ) : Type 0 wh
   pub kinds-is : kinds ≡ u16At book settingsAt
   pub table-long : 4 * count ≤ length table
   pub plan-long : planSize count kinds ≤ length plan
+
+-- a buffer with zeros from a place on
+pub record ClearFrom (plan : List ℕ) (at : ℕ) : Type 0 where
+  pub zero-from : (i : ℕ) → at ≤ i → getD plan i 0 ≡ 0

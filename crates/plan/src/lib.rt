@@ -13,7 +13,7 @@ ghost use Rattle.plan.specs.Form.{oneCell, otherCell, badColumn, planSiz
 ghost use Rattle.plan.specs.Form.{sizeGood, planContentsGood, planGood, planJudged};
 ghost use Rattle.plan.specs.Form.{rowsAt, rowAt};
 ghost use Rattle.plan.specs.Bytes.{wordBytes, planContents, rowOf, rowsOf, planBytes};
-ghost use Rattle.plan.specs.Table.{marksOf, farCell, rowBy, Writable};
+ghost use Rattle.plan.specs.Table.{marksOf, farCell, rowBy, Writable, ClearFrom};
 use book::Judged;
 use book::Node;
 use book::entry_is;
@@ -21,7 +21,8 @@ use book::first_bad;
 use book::node_at;
 use book::settings_good;
 use kinds::has;
-use words::clear_bytes;
+use kinds::lowest;
+use kinds::without;
 use words::put_u16;
 use words::u16_at;
 
@@ -254,7 +255,7 @@ fn far_cell(node: Node, skip: u8) -> u8
     }
 }
 
-// Writes a row: for each kind in FIRST(node) one cell if it is in FIRST(left), another if not; then the nullable mark.
+// Writes a row into zeros: for each kind in FIRST(node) one cell if it is in FIRST(left), another if not; then the nullable mark.
 fn put_row(
     plan: &mut [u8],
     at: usize,
@@ -265,18 +266,20 @@ fn put_row(
     far: u8,
     mark: u8,
 )
-    requires { ⌜ (at + (kinds + 1) ≤ length (now plan)) × (kinds ≤ 64) ⌝ }
+    requires { ⌜ (at + (kinds + 1) ≤ length (now plan)) × (kinds ≤ 64) × ClearFrom (now plan) at ⌝ }
     ensures { λ _. ⌜ now (plan .exit) ≡ sets (now (plan .entry)) at (rowBy first left near far kinds mark) ⌝ }
 {
-    let mut k = 0;
+    let mut rest = first;
+    let mut k = lowest(rest);
     while k < kinds {
-        plan[at + k] = cell_if(has(first, k), cell_if(has(left, k), near, far), 0);
-        k += 1;
+        plan[at + k] = cell_if(has(left, k), near, far);
+        rest = without(rest, k);
+        k = lowest(rest);
     }
     plan[at + kinds] = mark;
 }
 
-// Writes the row of a node, by a table of facts, at its offset.
+// Writes the row of a node, by a table of facts, at its offset, into zeros.
 fn write_row(
     book: &[u8],
     n: usize,
@@ -286,7 +289,7 @@ fn write_row(
     plan: &mut [u8],
     at: usize,
 )
-    requires { ⌜ Writable (now book) (now table) (now plan) count kinds × (n < count) × (at ≡ rowAt count kinds n) ⌝ }
+    requires { ⌜ Writable (now book) (now table) (now plan) count kinds × (n < count) × (at ≡ rowAt count kinds n) × ClearFrom (now plan) at ⌝ }
     ensures { λ _. ⌜ now (plan .exit) ≡ sets (now (plan .entry)) at (rowOf (marksOf (now (table .entry)) count) (bookOf (now (book .entry))) n) ⌝ }
 {
     let node = node_at(book, book::NODES_AT, n);
@@ -307,9 +310,9 @@ fn write_row(
     );
 }
 
-// Writes all rows, by a table of facts.
+// Writes all rows, by a table of facts, into zeros.
 fn write_rows(book: &[u8], count: usize, kinds: usize, table: &[u64], plan: &mut [u8])
-    requires { ⌜ Writable (now book) (now table) (now plan) count kinds ⌝ }
+    requires { ⌜ Writable (now book) (now table) (now plan) count kinds × ClearFrom (now plan) (rowsAt count) ⌝ }
     ensures { λ _. ⌜ now (plan .exit) ≡ sets (now (plan .entry)) (rowsAt count) (rowsOf (marksOf (now (table .entry)) count) (bookOf (now (book .entry)))) ⌝ }
 {
     let mut at = NODES_AT + 6 * count;
@@ -321,12 +324,11 @@ fn write_rows(book: &[u8], count: usize, kinds: usize, table: &[u64], plan: &mut
     }
 }
 
-// Writes the plan of a book of good form, by a table of facts, into the front of a lent buffer, and clears the rest.
+// Writes the plan of a book of good form, by a table of facts, into the front of a clear buffer.
 pub fn write_plan(book: &[u8], count: usize, kinds: usize, table: &[u64], plan: &mut [u8])
-    requires { ⌜ Writable (now book) (now table) (now plan) count kinds ⌝ }
+    requires { ⌜ Writable (now book) (now table) (now plan) count kinds × (now plan ≡ zeros (length (now plan))) ⌝ }
     ensures { λ _. ⌜ now (plan .exit) ≡ planBytes (now (book .entry)) (marksOf (now (table .entry)) count) ++ zeros (length (now (plan .entry)) - planSize count kinds) ⌝ }
 {
-    clear_bytes(plan);
     put_contents(plan, count, kinds);
     put_book(plan, book);
     write_rows(book, count, kinds, table, plan);

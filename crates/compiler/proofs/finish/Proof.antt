@@ -28,14 +28,17 @@ returns c =
 write-plan-requires : tie.Need-write-plan-requires
 write-plan-requires c κs =
     let tested = c .before in
-    let known = tested .before .before .before .before .before .before .pre .0 in
-    record {
-      form = known .good .is-done;
-      count-is = known .count-is ∙ sym (book-count _);
-      kinds-is = tested .before .before .u16-at .ensures .0;
-      table-long = known .long;
-      plan-long = omega (arith, tested .before .plan-size .ensures .0, tested .if1 .left);
-    }
+    let entry = tested .before .before .before .before .before .before in
+    let known = entry .pre .0 in (
+      record {
+        form = known .good .is-done;
+        count-is = known .count-is ∙ sym (book-count _);
+        kinds-is = tested .before .before .u16-at .ensures .0;
+        table-long = known .long;
+        plan-long = omega (arith, tested .before .plan-size .ensures .0, tested .if1 .left);
+      },
+      entry .pre .1 .0 .zero-all,
+    )
 
 answered-requires-2 : tie.Need-answered-requires-2
 answered-requires-2 c κs = search needs
