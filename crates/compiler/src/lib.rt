@@ -1,9 +1,9 @@
 // Compiling a book to a plan: numbers 0 to 7.
 ghost use mathlib.Core.Path.{_≡_};
-ghost use Prim.Native.Nat.{_<_, _≤_, _^_};
+ghost use Prim.Native.Nat.{_*_, _<_, _≤_, _^_};
 ghost use lib.ListN.{length};
 ghost use Rattle.book.specs.Decode.{nodes};
-ghost use Rattle.book.specs.Form.{nodesAt, bookOf};
+ghost use Rattle.book.specs.Form.{nodesAt, countOf, bookOf};
 ghost use Rattle.plan.specs.Form.{planSize};
 ghost use Rattle.rules.specs.Rules.{Reach};
 ghost use Rattle.rules.specs.Growth.{Blank};
@@ -108,19 +108,20 @@ fn judge(book: &[u8], count: usize, start: usize, table: &[u64], plan: &mut [u8]
 }
 
 // Compiles a book of good form, with a blank table for its facts, to a clear plan buffer.
-fn compile_formed(book: &[u8], table: &mut [u64], plan: &mut [u8]) -> Compiled
+fn compile_formed(book: &[u8], count: usize, table: &mut [u64], plan: &mut [u8]) -> Compiled
     requires { ⌜ GoodForm (now book) ⌝ }
-    requires { ⌜ Blank 2048 (now table) ⌝ }
+    requires { ⌜ count ≡ countOf (length (now book)) ⌝ }
+    requires { ⌜ Blank (4 * count) (now table) ⌝ }
     requires { ⌜ Clear (now plan) ⌝ }
     ensures { λ r. ⌜ Compiles (now (book .entry)) (length (now (plan .entry))) r (now (plan .exit)) ⌝ }
 {
-    let count = book::count_of(book.len());
     let start = u16_at(book, SETTINGS_AT + 2);
     rules::least_facts(book, NODES_AT, count, table);
     judge(book, count, start, table, plan)
 }
 
 // Compiles a book, for any bytes and any plan room: done with the plan, or the first of 1 to 7 and a clear plan buffer.
+// A small book has a small table, which is quicker to clear.
 pub fn compile(book: &[u8], plan: &mut [u8]) -> Compiled
     ensures { λ r. ⌜ Compiles (now (book .entry)) (length (now (plan .entry))) r (now (plan .exit)) ⌝ }
 {
@@ -129,6 +130,11 @@ pub fn compile(book: &[u8], plan: &mut [u8]) -> Compiled
     if judged.number != DONE {
         return answered(judged.number, judged.place as usize, 0, 0);
     }
+    let count = book::count_of(book.len());
+    if count <= 64 {
+        let mut table = [0u64; 256];
+        return compile_formed(book, count, &mut table, plan);
+    }
     let mut table = [0u64; 2048];
-    compile_formed(book, &mut table, plan)
+    compile_formed(book, count, &mut table, plan)
 }
