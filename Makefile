@@ -43,7 +43,7 @@ bench: archive
 
 # random and damaged inputs against the independent implementations; prints the seed, and at a failure the smallest failing input
 fuzz: archive listing
-	@CARGO_TARGET_DIR=$(CURDIR)/target/host cargo run --quiet --offline --manifest-path host/Cargo.toml --bin fuzz -- --seconds $(SECONDS)
+	@CARGO_TARGET_DIR=$(CURDIR)/target/host cargo run --quiet --offline --manifest-path host/Cargo.toml --bin fuzz -- --seconds $(SECONDS) $(if $(SEED),--seed $(SEED))
 
 # the header, the archive and a pkg-config file, below PREFIX
 install: archive
