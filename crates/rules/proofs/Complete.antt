@@ -1,7 +1,6 @@
 -- Where a table is closed under the rules at every node, it has every fact that they give; where it is sound too, it has those alone.
 use Prim.Native.Nat.{ℕ, _+_, _*_, _<_}
-use mathlib.Core.Path.{_≡_, refl}
-use mathlib.Core.Bool.{Bool, false}
+use mathlib.Core.Path.{refl}
 use mathlib.Core.List.{List}
 use mathlib.Core.Logic.{inl, inr}
 use native.Mathlib.Nat.{add-zero}
@@ -13,7 +12,7 @@ use Rattle.book.specs.Book.{Proper}
 use Rattle.book.specs.declared.Node.{Node}
 use Rattle.rules.specs.Rules.{Productive, Nullable, First, Snf, p-empty, p-token, p-left, p-right, p-then, p-tagged, p-ref, n-empty, n-left, n-right, n-then, n-tagged, n-ref, f-token, f-left, f-right, f-hold, f-skip, f-tagged, f-ref, s-left, s-right, s-first-left, s-first-right, s-then-left, s-then-right, s-tagged, s-ref}
 use Rattle.rules.specs.Facts.{Facts}
-use Rattle.rules.specs.Growth.{Sound, Turned}
+use Rattle.rules.specs.Growth.{Sound}
 use Rattle.rules.specs.Step.{leftFrom, rightFrom, factsAt, ruledOf, FactAt, Holds, RuleClosed}
 use Rattle.rules.proofs.Reading.{left-below, right-below}
 use Rattle.rules.proofs.Steps.{table-sound}
@@ -24,7 +23,7 @@ module _ {node : ℕ → Node} {kinds count : ℕ} (proper : (n : ℕ) → n < c
   record Node-at (at : Node) (n : ℕ) : Type 0 where
     below : n < count
     proper-is : Proper kinds count n at
-    given : Holds (ruledOf at (factsAt table (leftFrom n at)) (factsAt table (rightFrom n at))) table n
+    given : Holds (ruledOf at (factsAt table)) table n
 
   here : (n : ℕ) → n < count → Node-at (node n) n
   here n below = record { below = below; proper-is = proper n below; given = closed n below }
@@ -37,16 +36,16 @@ module _ {node : ℕ → Node} {kinds count : ℕ} (proper : (n : ℕ) → n < c
 
   -- the table has at a node what the rules give it
   module _ {at : Node} {n : ℕ} (known : Node-at at n) (k : ℕ) where
-    give-productive : Has (ruledOf at (factsAt table (leftFrom n at)) (factsAt table (rightFrom n at)) .productive) k → Has (getD table (4 * n) 0) k
+    give-productive : Has (ruledOf at (factsAt table) .productive) k → Has (getD table (4 * n) 0) k
     give-productive has = rw add-zero at (known .given .holds 0 k (omega arith) has)
 
-    give-nullable : Has (ruledOf at (factsAt table (leftFrom n at)) (factsAt table (rightFrom n at)) .nullable) k → Has (getD table (4 * n + 1) 0) k
+    give-nullable : Has (ruledOf at (factsAt table) .nullable) k → Has (getD table (4 * n + 1) 0) k
     give-nullable has = known .given .holds 1 k (omega arith) has
 
-    give-first : Has (ruledOf at (factsAt table (leftFrom n at)) (factsAt table (rightFrom n at)) .first) k → Has (getD table (4 * n + 2) 0) k
+    give-first : Has (ruledOf at (factsAt table) .first) k → Has (getD table (4 * n + 2) 0) k
     give-first has = known .given .holds 2 k (omega arith) has
 
-    give-snf : Has (ruledOf at (factsAt table (leftFrom n at)) (factsAt table (rightFrom n at)) .snf) k → Has (getD table (4 * n + 3) 0) k
+    give-snf : Has (ruledOf at (factsAt table) .snf) k → Has (getD table (4 * n + 3) 0) k
     give-snf has = known .given .holds 3 k (omega arith) has
 
   module _ (k : ℕ) (small : k < 64) where
@@ -123,9 +122,3 @@ module _ {node : ℕ → Node} {kinds count : ℕ} (proper : (n : ℕ) → n < c
     first-is = λ n k below small. (table-sound n sound .sound 2 k, has-first small (here n below));
     snf-is = λ n k below small. (table-sound n sound .sound 3 k, has-snf small (here n below));
   }
-
--- after a turn over a sound table that changed nothing, it has the facts
-pub turned-facts : {node : ℕ → Node} {kinds count : ℕ} {before after : List ℕ} {changed : Bool}
-    → ((n : ℕ) → n < count → Proper kinds count n (node n)) → Sound (FactAt node) before
-    → Turned (FactAt node) (RuleClosed node) count before after changed → changed ≡ false → Facts node count after
-turned-facts proper sound turned unchanged = rw (turned .grown .still unchanged) (facts-are proper (turned .closed unchanged) sound)

@@ -107,8 +107,9 @@ module _ {before after : List ℕ} {i more : ℕ} {changed : Bool} (inside : i <
   here : getD after i 0 ≡ joined (getD before i 0) more
   here = ap (λ (sets : List ℕ). getD sets i 0) (j .sets) ∙ getD-set-same before i _ 0 inside
 
-  other : (m : ℕ) → m ≢ i → getD after m 0 ≡ getD before m 0
-  other m differ = ap (λ (sets : List ℕ). getD sets m 0) (j .sets) ∙ getD-set-other before i m _ 0 differ
+  -- the other sets are as they were
+  pub joined-other : (m : ℕ) → m ≢ i → getD after m 0 ≡ getD before m 0
+  joined-other m differ = ap (λ (sets : List ℕ). getD sets m 0) (j .sets) ∙ getD-set-other before i m _ 0 differ
 
   same : changed ≡ false → joined (getD before i 0) more ≡ getD before i 0
   same e = eqb-true _ _ (not-false _ (sym (j .changed-is) ∙ e))
@@ -132,13 +133,13 @@ module _ {before after : List ℕ} {i more : ℕ} {changed : Bool} (inside : i <
     where
       keeps : (m k : ℕ) → Dec (m ≡ i) → Has (getD before m 0) k → Has (getD after m 0) k
       keeps m k (yes e) has = rw (e, here) (has-join (getD before i 0) more k .1 (inl (rw e at has)))
-      keeps m k (no f) has = rw (other m f) has
+      keeps m k (no f) has = rw (joined-other m f) has
 
       adds : (m k : ℕ) → Dec (m ≡ i) → Has (getD after m 0) k → Has (getD before m 0) k ⊎ By m k
       adds m k (yes e) has =
           ⊎-elim (λ kept. inl (rw e kept)) (λ added. inr (rw e (by k added)))
           (has-join (getD before i 0) more k .0 (rw (e, here) at has))
-      adds m k (no f) has = inl (rw (other m f) at has)
+      adds m k (no f) has = inl (rw (joined-other m f) at has)
 
   -- the set has what was joined
   pub joined-has : (k : ℕ) → Has more k → Has (getD after i 0) k

@@ -9,25 +9,32 @@ use Rattle.book.proofs.Decoded.{nodes-below}
 use Rattle.book.specs.declared.Node.{Node}
 use Rattle.rules.specs.Step.{leftFrom, rightFrom, kindOf}
 
--- the left and the right of a proper node are below the count
-module _ {kinds count n : ℕ} (below : n < count) where
-  pub left-below : {at : Node} → Proper kinds count n at → leftFrom n at < count
-  left-below fail-is = below
-  left-below empty-is = below
-  left-below (token-is k) = below
-  left-below (either-is l r) = omega arith
-  left-below (then-is l r) = omega arith
-  left-below (tagged-is l t) = omega arith
-  left-below (ref-is l) = l
+-- the left and the right of a proper node are below the count, if what stands for none is
+module _ {kinds count n none : ℕ} (below : n < count) (none-below : none < count) where
+  left-within : {at : Node} → Proper kinds count n at → leftFrom none at < count
+  left-within fail-is = none-below
+  left-within empty-is = none-below
+  left-within (token-is k) = none-below
+  left-within (either-is l r) = omega arith
+  left-within (then-is l r) = omega arith
+  left-within (tagged-is l t) = omega arith
+  left-within (ref-is l) = l
 
-  pub right-below : {at : Node} → Proper kinds count n at → rightFrom n at < count
-  right-below fail-is = below
-  right-below empty-is = below
-  right-below (token-is k) = below
-  right-below (either-is l r) = omega arith
-  right-below (then-is l r) = omega arith
-  right-below (tagged-is l t) = below
-  right-below (ref-is l) = below
+  right-within : {at : Node} → Proper kinds count n at → rightFrom none at < count
+  right-within fail-is = none-below
+  right-within empty-is = none-below
+  right-within (token-is k) = none-below
+  right-within (either-is l r) = omega arith
+  right-within (then-is l r) = omega arith
+  right-within (tagged-is l t) = none-below
+  right-within (ref-is l) = none-below
+
+module _ {kinds count n : ℕ} {at : Node} (below : n < count) (proper : Proper kinds count n at) where
+  pub left-below : leftFrom n at < count
+  left-below = left-within below below proper
+
+  pub right-below : rightFrom n at < count
+  right-below = right-within below below proper
 
 -- the kind of a proper token is below the number of kinds, and so is 0 if there is one
 pub kind-below : {kinds count n : ℕ} {at : Node} → 0 < kinds → Proper kinds count n at → kindOf at < kinds
@@ -69,6 +76,13 @@ module _ {bytes : List ℕ} {base count : ℕ} (good : GoodNodes bytes base coun
 
   pub right-inside : rightFrom n at < count
   right-inside = right-below below proper-is
+
+  -- the same with 0 for none
+  pub left-or-zero : leftFrom 0 at < count
+  left-or-zero = left-within below (omega arith) proper-is
+
+  pub right-or-zero : rightFrom 0 at < count
+  right-or-zero = right-within below (omega arith) proper-is
 
   pub kind-inside : kindOf at < 64
   kind-inside = kind-below (omega arith) proper-is

@@ -1,7 +1,7 @@
--- A visit of one node: what is put into the table at the node is by the rules, and if nothing changed, the table had what they give.
+-- A visit of one node: what is put into the table at the node is by the rules.
 use Prim.Native.Nat.{ℕ, zero, suc, _+_, _*_, _/_, _%_, _≤_, _<_}
-use mathlib.Core.Path.{_≡_, _∙_}
-use mathlib.Core.Bool.{Bool, false, _||_}
+use mathlib.Core.Path.{_≡_, sym, _∙_}
+use mathlib.Core.Bool.{Bool, _||_}
 use mathlib.Core.List.{List}
 use mathlib.Core.Logic.{⊎-elim}
 use native.Mathlib.Nat.{add-zero}
@@ -13,9 +13,9 @@ use Rattle.book.specs.declared.Node.{Node}
 use Rattle.book.specs.declared.Node.the-variants.{Fail, Empty, Token, Either, Then, Tagged, Ref}
 use Rattle.rules.specs.Rules.{p-empty, p-token, p-left, p-right, p-then, p-tagged, p-ref, n-empty, n-left, n-right, n-then, n-tagged, n-ref, f-token, f-left, f-right, f-hold, f-skip, f-tagged, f-ref, s-left, s-right, s-first-left, s-first-right, s-then-left, s-then-right, s-tagged, s-ref}
 use Rattle.rules.specs.declared.NodeFacts.{NodeFacts}
-use Rattle.rules.specs.Growth.{Sound, Joined, Grown, Visited}
-use Rattle.rules.specs.Step.{leftFrom, rightFrom, factsAt, ruledOf, factOf, Fact, FactAt, Given, Holds, RuleClosed}
-use Rattle.rules.proofs.Growing.{or-false, grown-then, grown-by, joined-grown, joined-held}
+use Rattle.rules.specs.Growth.{Sound, Joined, Grown}
+use Rattle.rules.specs.Step.{factsAt, ruledOf, factOf, Fact, FactAt, Given, Holds, PutAt}
+use Rattle.rules.proofs.Growing.{grown-then, grown-by, joined-grown, joined-has, joined-other}
 
 -- ---- four sets joined
 
@@ -53,26 +53,23 @@ module _ {table one two three four : List ℕ} {n : ℕ} {facts : NodeFacts} {c 
   grown-four : Grown (Given n facts) three four f
   grown-four = joined-grown (omega (arith, grown-one .long, grown-two .long, grown-three .long)) snf (λ k. given 3 k (omega arith))
 
-  -- four facts joined at a node are a visit of it
-  pub put-visited : Visited (Given n facts) (Holds facts) n table four (c || d || e || f)
-  put-visited = record {
+  -- four facts joined at a node are put there
+  pub facts-put : PutAt (Given n facts) facts n table four (c || d || e || f)
+  facts-put = record {
     grown = grown-then (grown-then (grown-then grown-one grown-two) grown-three) grown-four;
-    closed = closed;
+    given = holds-each
+        (λ k has. grown-four .keeps _ k (grown-three .keeps _ k (grown-two .keeps _ k (joined-has (omega arith) productive k has))))
+        (λ k has. grown-four .keeps _ k (grown-three .keeps _ k (joined-has (omega (arith, grown-one .long)) nullable k has)))
+        (λ k has. grown-four .keeps _ k (joined-has (omega (arith, grown-one .long, grown-two .long)) first k has))
+        (λ k has. joined-has (omega (arith, grown-one .long, grown-two .long, grown-three .long)) snf k has);
+    lower = record {
+      same = λ i below.
+          joined-other (omega (arith, grown-one .long, grown-two .long, grown-three .long)) snf i (λ same. omega arith)
+          ∙ joined-other (omega (arith, grown-one .long, grown-two .long)) first i (λ same. omega arith)
+          ∙ joined-other (omega (arith, grown-one .long)) nullable i (λ same. omega arith)
+          ∙ joined-other (omega arith) productive i (λ same. omega arith);
+    };
   }
-    where
-      closed : (c || d || e || f) ≡ false → Holds facts table n
-      closed unchanged =
-          let last = or-false (c || d || e) f unchanged in
-          let third = or-false (c || d) e (last .0) in
-          let second = or-false c d (third .0) in
-          let at-one : one ≡ table = grown-one .still (second .0) in
-          let at-two : two ≡ table = grown-two .still (second .1) ∙ at-one in
-          let at-three : three ≡ table = grown-three .still (third .1) ∙ at-two in
-          holds-each
-          (joined-held (omega arith) productive (second .0))
-          (λ k has. rw at-one at (joined-held (omega (arith, grown-one .long)) nullable (second .1) k has))
-          (λ k has. rw at-two at (joined-held (omega (arith, grown-one .long, grown-two .long)) first (third .1) k has))
-          (λ k has. rw at-three at (joined-held (omega (arith, grown-one .long, grown-two .long, grown-three .long)) snf (last .1) k has))
 
 -- ---- the rules
 
@@ -98,72 +95,66 @@ module _ {node : ℕ → Node} where
       each (suc (suc (suc more))) k has = placed 3 k (omega arith) has
 
   -- what the rules give by sound facts is sound
-  ruled-sound : (own : ℕ) (at : Node) {left right : NodeFacts} → SoundFacts node (node (leftFrom own at)) left
-      → SoundFacts node (node (rightFrom own at)) right → SoundFacts node at (ruledOf at left right)
+  ruled-sound : (at : Node) {facts : ℕ → NodeFacts} → ((m : ℕ) → SoundFacts node (node m) (facts m)) → SoundFacts node at (ruledOf at facts)
   unfolding ruledOf
-  ruled-sound own at {left} {right} p q = record { sound = each at p q }
+  ruled-sound at {facts} by = record { sound = each at }
     where
-      each : (at : Node) → SoundFacts node (node (leftFrom own at)) left → SoundFacts node (node (rightFrom own at)) right
-          → (j k : ℕ) → Has (factOf (ruledOf at left right) j) k → Fact node at j k
-      each Fail p q zero k has = absurd (none has)
-      each Fail p q (suc zero) k has = absurd (none has)
-      each Fail p q (suc (suc zero)) k has = absurd (none has)
-      each Fail p q (suc (suc (suc more))) k has = absurd (none has)
-      each Empty p q zero k has = p-empty
-      each Empty p q (suc zero) k has = n-empty
-      each Empty p q (suc (suc zero)) k has = absurd (none has)
-      each Empty p q (suc (suc (suc more))) k has = absurd (none has)
-      each (Token kind) p q zero k has = p-token
-      each (Token kind) p q (suc zero) k has = absurd (none has)
-      each (Token kind) p q (suc (suc zero)) k has = rw (has-single k kind .0 has) f-token
-      each (Token kind) p q (suc (suc (suc more))) k has = absurd (none has)
-      each (Either l r) p q zero k has = ⊎-elim (λ h. p-left (p .sound 0 k h)) (λ h. p-right (q .sound 0 k h)) (has-join _ _ k .0 has)
-      each (Either l r) p q (suc zero) k has = ⊎-elim (λ h. n-left (p .sound 1 k h)) (λ h. n-right (q .sound 1 k h)) (has-join _ _ k .0 has)
-      each (Either l r) p q (suc (suc zero)) k has = ⊎-elim (λ h. f-left (p .sound 2 k h)) (λ h. f-right (q .sound 2 k h)) (has-join _ _ k .0 has)
-      each (Either l r) p q (suc (suc (suc more))) k has =
+      each : (at : Node) (j k : ℕ) → Has (factOf (ruledOf at facts) j) k → Fact node at j k
+      each Fail zero k has = absurd (none has)
+      each Fail (suc zero) k has = absurd (none has)
+      each Fail (suc (suc zero)) k has = absurd (none has)
+      each Fail (suc (suc (suc more))) k has = absurd (none has)
+      each Empty zero k has = p-empty
+      each Empty (suc zero) k has = n-empty
+      each Empty (suc (suc zero)) k has = absurd (none has)
+      each Empty (suc (suc (suc more))) k has = absurd (none has)
+      each (Token kind) zero k has = p-token
+      each (Token kind) (suc zero) k has = absurd (none has)
+      each (Token kind) (suc (suc zero)) k has = rw (has-single k kind .0 has) f-token
+      each (Token kind) (suc (suc (suc more))) k has = absurd (none has)
+      each (Either l r) zero k has = ⊎-elim (λ h. p-left (by l .sound 0 k h)) (λ h. p-right (by r .sound 0 k h)) (has-join _ _ k .0 has)
+      each (Either l r) (suc zero) k has = ⊎-elim (λ h. n-left (by l .sound 1 k h)) (λ h. n-right (by r .sound 1 k h)) (has-join _ _ k .0 has)
+      each (Either l r) (suc (suc zero)) k has = ⊎-elim (λ h. f-left (by l .sound 2 k h)) (λ h. f-right (by r .sound 2 k h)) (has-join _ _ k .0 has)
+      each (Either l r) (suc (suc (suc more))) k has =
           ⊎-elim
           (λ three.
           ⊎-elim
-          (λ two. ⊎-elim (λ h. s-left (p .sound 3 k h)) (λ h. s-right (q .sound 3 k h)) (has-join _ _ k .0 two))
-          (λ h. let both = has-shared _ _ k .0 h in s-first-left (p .sound 2 k (both .0)) (q .sound 1 k (both .1)))
+          (λ two. ⊎-elim (λ h. s-left (by l .sound 3 k h)) (λ h. s-right (by r .sound 3 k h)) (has-join _ _ k .0 two))
+          (λ h. let both = has-shared _ _ k .0 h in s-first-left (by l .sound 2 k (both .0)) (by r .sound 1 k (both .1)))
           (has-join _ _ k .0 three))
-          (λ h. let both = has-shared _ _ k .0 h in s-first-right (p .sound 1 k (both .0)) (q .sound 2 k (both .1)))
+          (λ h. let both = has-shared _ _ k .0 h in s-first-right (by l .sound 1 k (both .0)) (by r .sound 2 k (both .1)))
           (has-join _ _ k .0 has)
-      each (Then l r) p q zero k has = let both = has-shared _ _ k .0 has in p-then (p .sound 0 k (both .0)) (q .sound 0 k (both .1))
-      each (Then l r) p q (suc zero) k has = let both = has-shared _ _ k .0 has in n-then (p .sound 1 k (both .0)) (q .sound 1 k (both .1))
-      each (Then l r) p q (suc (suc zero)) k has =
+      each (Then l r) zero k has = let both = has-shared _ _ k .0 has in p-then (by l .sound 0 k (both .0)) (by r .sound 0 k (both .1))
+      each (Then l r) (suc zero) k has = let both = has-shared _ _ k .0 has in n-then (by l .sound 1 k (both .0)) (by r .sound 1 k (both .1))
+      each (Then l r) (suc (suc zero)) k has =
           ⊎-elim
-          (λ h. let both = has-shared _ _ k .0 h in f-hold (p .sound 2 k (both .0)) (q .sound 0 k (both .1)))
-          (λ h. let both = has-shared _ _ k .0 h in f-skip (p .sound 1 k (both .0)) (q .sound 2 k (both .1)))
+          (λ h. let both = has-shared _ _ k .0 h in f-hold (by l .sound 2 k (both .0)) (by r .sound 0 k (both .1)))
+          (λ h. let both = has-shared _ _ k .0 h in f-skip (by l .sound 1 k (both .0)) (by r .sound 2 k (both .1)))
           (has-join _ _ k .0 has)
-      each (Then l r) p q (suc (suc (suc more))) k has =
+      each (Then l r) (suc (suc (suc more))) k has =
           ⊎-elim
-          (λ h. let both = has-shared _ _ k .0 h in s-then-left (p .sound 3 k (both .0)) (q .sound 1 k (both .1)))
-          (λ h. let both = has-shared _ _ k .0 h in s-then-right (p .sound 0 k (both .0)) (q .sound 3 k (both .1)))
+          (λ h. let both = has-shared _ _ k .0 h in s-then-left (by l .sound 3 k (both .0)) (by r .sound 1 k (both .1)))
+          (λ h. let both = has-shared _ _ k .0 h in s-then-right (by l .sound 0 k (both .0)) (by r .sound 3 k (both .1)))
           (has-join _ _ k .0 has)
-      each (Tagged l t) p q zero k has = p-tagged (p .sound 0 k has)
-      each (Tagged l t) p q (suc zero) k has = n-tagged (p .sound 1 k has)
-      each (Tagged l t) p q (suc (suc zero)) k has = f-tagged (p .sound 2 k has)
-      each (Tagged l t) p q (suc (suc (suc more))) k has = s-tagged (p .sound 3 k has)
-      each (Ref l) p q zero k has = p-ref (p .sound 0 k has)
-      each (Ref l) p q (suc zero) k has = n-ref (p .sound 1 k has)
-      each (Ref l) p q (suc (suc zero)) k has = f-ref (p .sound 2 k has)
-      each (Ref l) p q (suc (suc (suc more))) k has = s-ref (p .sound 3 k has)
+      each (Tagged l t) zero k has = p-tagged (by l .sound 0 k has)
+      each (Tagged l t) (suc zero) k has = n-tagged (by l .sound 1 k has)
+      each (Tagged l t) (suc (suc zero)) k has = f-tagged (by l .sound 2 k has)
+      each (Tagged l t) (suc (suc (suc more))) k has = s-tagged (by l .sound 3 k has)
+      each (Ref l) zero k has = p-ref (by l .sound 0 k has)
+      each (Ref l) (suc zero) k has = n-ref (by l .sound 1 k has)
+      each (Ref l) (suc (suc zero)) k has = f-ref (by l .sound 2 k has)
+      each (Ref l) (suc (suc (suc more))) k has = s-ref (by l .sound 3 k has)
 
-  -- what the rules give a node that was read, put into a sound table, is a visit by the rules
-  pub rules-visited : {table after : List ℕ} {n l r : ℕ} {at : Node} {left right facts : NodeFacts} {changed : Bool}
-      → Sound (FactAt node) table → at ≡ node n → l ≡ leftFrom n at → left ≡ factsAt table l → r ≡ rightFrom n at
-      → right ≡ factsAt table r → facts ≡ ruledOf at left right → Visited (Given n facts) (Holds facts) n table after changed
-      → Visited (FactAt node) (RuleClosed node) n table after changed
-  rules-visited {table} {after} {n} {l} {r} {at} {left} {right} {facts} {changed} sound is l-is left-is r-is right-is facts-are visited =
-      record { grown = grown-by wider (visited .grown); closed = λ e. rw ruled at (visited .closed e) }
-    where
-      ruled : facts ≡ ruledOf (node n) (factsAt table (leftFrom n (node n))) (factsAt table (rightFrom n (node n)))
-      ruled = cc
+  module _ {table after : List ℕ} {n : ℕ} {at : Node} {facts : NodeFacts} {changed : Bool} (sound : Sound (FactAt node) table) (is : at ≡ node n)
+      (ruled : facts ≡ ruledOf at (factsAt table)) (put : PutAt (Given n facts) facts n table after changed) where
+    -- what the rules give a node that was read has been put into a sound table by the rules
+    pub rules-put : PutAt (FactAt node) (ruledOf (node n) (factsAt table)) n table after changed
+    rules-put = record { grown = grown-by wider (put .grown); given = rw (sym ruled-is) (put .given); lower = put .lower }
+      where
+        ruled-is : facts ≡ ruledOf (node n) (factsAt table)
+        ruled-is = cc
 
-      wider : (i k : ℕ) → Given n facts i k → FactAt node i k
-      wider i k given = record {
-        fact = rw (given .own)
-            (ruled-sound n (node n) (table-sound (leftFrom n (node n)) sound) (table-sound (rightFrom n (node n)) sound) .sound (i % 4) k
-            (rw ruled at (given .given)));
-      }
+        wider : (i k : ℕ) → Given n facts i k → FactAt node i k
+        wider i k given = record {
+          fact = rw (given .own) (ruled-sound (node n) (λ m. table-sound m sound) .sound (i % 4) k (rw ruled-is at (given .given)));
+        }

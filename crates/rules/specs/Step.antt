@@ -2,7 +2,7 @@
 use Prim.Native.Nat.{ℕ, zero, suc, _+_, _*_, _/_, _%_, _<_}
 use mathlib.Core.Path.{_≡_}
 use mathlib.Core.Logic.{_≢_}
-use mathlib.Core.Bool.{Bool, cond}
+use mathlib.Core.Bool.{Bool, true, false, cond}
 use mathlib.Core.List.{List}
 use lib.Dec.{eqb}
 use lib.ListN.{getD}
@@ -12,7 +12,7 @@ use Rattle.book.specs.declared.Node.the-variants.{Fail, Empty, Token, Either, T
 use Rattle.rules.specs.Rules.{Productive, Nullable, First, Snf, Child, Reach}
 use Rattle.rules.specs.Conflicts.{NO-CONFLICT, BOTH-NULLABLE}
 use Rattle.rules.specs.Facts.{Marked}
-use Rattle.rules.specs.Growth.{Sound, Visited, Turned}
+use Rattle.rules.specs.Growth.{Sound, Grown, Visited, Turned}
 use Rattle.rules.specs.declared.NodeFacts.{NodeFacts}
 
 -- the left of a node, its own number where it has none
@@ -73,14 +73,24 @@ thenFacts left right = record {
 }
 
 -- what the rules give a node by the facts of its left and right
-unfoldable pub ruledOf : Node → NodeFacts → NodeFacts → NodeFacts
-ruledOf Fail left right = record { productive = 0; nullable = 0; first = 0; snf = 0 }
-ruledOf Empty left right = record { productive = everyKind; nullable = everyKind; first = 0; snf = 0 }
-ruledOf (Token k) left right = record { productive = everyKind; nullable = 0; first = onlyKind k; snf = 0 }
-ruledOf (Either l r) left right = eitherFacts left right
-ruledOf (Then l r) left right = thenFacts left right
-ruledOf (Tagged l t) left right = left
-ruledOf (Ref l) left right = left
+unfoldable pub ruledOf : Node → (ℕ → NodeFacts) → NodeFacts
+ruledOf Fail facts = record { productive = 0; nullable = 0; first = 0; snf = 0 }
+ruledOf Empty facts = record { productive = everyKind; nullable = everyKind; first = 0; snf = 0 }
+ruledOf (Token k) facts = record { productive = everyKind; nullable = 0; first = onlyKind k; snf = 0 }
+ruledOf (Either l r) facts = eitherFacts (facts l) (facts r)
+ruledOf (Then l r) facts = thenFacts (facts l) (facts r)
+ruledOf (Tagged l t) facts = facts l
+ruledOf (Ref l) facts = facts l
+
+-- whether a node is a ref
+abbrev pub isRef : Node → Bool
+isRef Fail = false
+isRef Empty = false
+isRef (Token k) = false
+isRef (Either l r) = false
+isRef (Then l r) = false
+isRef (Tagged l t) = false
+isRef (Ref l) = true
 
 -- the four facts by number: productive 0, nullable 1, FIRST 2, SNF 3
 abbrev pub factOf : NodeFacts → ℕ → ℕ
@@ -108,10 +118,28 @@ pub record Given (n : ℕ) (facts : NodeFacts) (i k : ℕ) : Type 0 where
 pub record Holds (facts : NodeFacts) (table : List ℕ) (n : ℕ) : Type 0 where
   pub holds : (j k : ℕ) → j < 4 → Has (factOf facts j) k → Has (getD table (4 * n + j) 0) k
 
+-- a table is another at the nodes lower than one
+pub record SameBelow (n : ℕ) (before after : List ℕ) : Type 0 where
+  pub same : (i : ℕ) → i < 4 * n → getD after i 0 ≡ getD before i 0
+
+-- facts have been put into the table at a node: it has grown by a rule, has them, and is as it was at lower nodes
+pub record PutAt (By : ℕ → ℕ → Type 0) (facts : NodeFacts) (n : ℕ) (before after : List ℕ) (changed : Bool) : Type 0 where
+  pub grown : Grown By before after changed
+  pub given : Holds facts after n
+  pub lower : SameBelow n before after
+
 -- the table has what the rules give a node
 abbrev pub RuleClosed : (ℕ → Node) → List ℕ → ℕ → Type 0
-RuleClosed node table n =
-    Holds (ruledOf (node n) (factsAt table (leftFrom n (node n))) (factsAt table (rightFrom n (node n)))) table n
+RuleClosed node table n = Holds (ruledOf (node n) (factsAt table)) table n
+
+-- the table has what the rules give a node if that is a ref
+pub record RefClosed (node : ℕ → Node) (table : List ℕ) (n : ℕ) : Type 0 where
+  pub closed : isRef (node n) ≡ true → RuleClosed node table n
+
+-- the nodes below a count have been visited upward: the table has grown, and has what the rules give all of them but refs
+pub record Climbed (node : ℕ → Node) (count : ℕ) (before after : List ℕ) (changed : Bool) : Type 0 where
+  pub grown : Grown (FactAt node) before after changed
+  pub closed : (n : ℕ) → n < count → isRef (node n) ≡ false → RuleClosed node after n
 
 -- what is answered at an either: that both sides are nullable, before the lowest kind shared
 pub record EitherReport (both shared answer : ℕ) : Type 0 where

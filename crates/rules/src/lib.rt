@@ -7,7 +7,7 @@ ghost use Rattle.book.specs.Decode.{nodes, GoodNodes};
 ghost use Rattle.rules.specs.Facts.{Facts, Reached, Marked};
 ghost use Rattle.rules.specs.Conflicts.{ConflictAt, Conflicting, LowestConflict};
 ghost use Rattle.rules.specs.Growth.{Sound, Blank, Joined, Grown, Visited, Turned, visitedAt};
-ghost use Rattle.rules.specs.Step.{leftFrom, rightFrom, kindOf, factsAt, eitherFacts, thenFacts, ruledOf, EitherReport, reportedOf, FactAt, Given, Holds, RuleClosed, Spread, SpreadAll};
+ghost use Rattle.rules.specs.Step.{leftFrom, rightFrom, kindOf, factsAt, eitherFacts, thenFacts, ruledOf, isRef, EitherReport, reportedOf, FactAt, Given, PutAt, RefClosed, Climbed, Spread, SpreadAll};
 use book::Node;
 
 // What is answered for a node without a conflict.
@@ -92,10 +92,12 @@ fn then_facts(left: NodeFacts, right: NodeFacts) -> NodeFacts
     }
 }
 
-// What the rules give a node by the facts of its left and right.
-fn ruled(node: Node, left: NodeFacts, right: NodeFacts) -> NodeFacts
+// What the rules give a node by the table's facts of its left and right.
+fn ruled(node: Node, table: &[u64]) -> NodeFacts
     requires { ⌜ kindOf node < 64 ⌝ }
-    ensures { λ r. ⌜ r ≡ ruledOf node left right ⌝ }
+    requires { ⌜ 4 * leftFrom 0 node + 4 ≤ length (now table) ⌝ }
+    requires { ⌜ 4 * rightFrom 0 node + 4 ≤ length (now table) ⌝ }
+    ensures { λ r. ⌜ r ≡ ruledOf node (factsAt (now (table .entry))) ⌝ }
 {
     match node {
         Node::Fail => NodeFacts {
@@ -116,10 +118,10 @@ fn ruled(node: Node, left: NodeFacts, right: NodeFacts) -> NodeFacts
             first: kinds::single(k),
             snf: 0,
         },
-        Node::Either(_, _) => either_facts(left, right),
-        Node::Then(_, _) => then_facts(left, right),
-        Node::Tagged(_, _) => left,
-        Node::Ref(_) => left,
+        Node::Either(l, r) => either_facts(facts_at(table, l), facts_at(table, r)),
+        Node::Then(l, r) => then_facts(facts_at(table, l), facts_at(table, r)),
+        Node::Tagged(l, _) => facts_at(table, l),
+        Node::Ref(l) => facts_at(table, l),
     }
 }
 
@@ -137,7 +139,7 @@ fn grow(sets: &mut [u64], i: usize, more: u64) -> bool
 // Joins the facts of a node with more. Whether any changed.
 fn put(table: &mut [u64], n: usize, more: NodeFacts) -> bool
     requires { ⌜ 4 * n + 4 ≤ length (now table) ⌝ }
-    ensures { λ r. ⌜ Visited (Given n more) (Holds more) n (now (table .entry)) (now (table .exit)) r ⌝ }
+    ensures { λ r. ⌜ PutAt (Given n more) more n (now (table .entry)) (now (table .exit)) r ⌝ }
 {
     let at = 4 * n;
     let productive = grow(table, at, more.productive);
@@ -153,12 +155,59 @@ fn visit(book: &[u8], base: usize, count: usize, n: usize, table: &mut [u64]) ->
     requires { ⌜ n < count ⌝ }
     requires { ⌜ 4 * count ≤ length (now table) ⌝ }
     requires { ⌜ Sound (FactAt (nodes (now book) base count)) (now table) ⌝ }
-    ensures { λ r. ⌜ Visited (FactAt (nodes (now (book .entry)) base count)) (RuleClosed (nodes (now (book .entry)) base count)) n (now (table .entry)) (now (table .exit)) r ⌝ }
+    ensures { λ r. ⌜ PutAt (FactAt (nodes (now (book .entry)) base count)) (ruledOf (nodes (now (book .entry)) base count n) (factsAt (now (table .entry)))) n (now (table .entry)) (now (table .exit)) r ⌝ }
 {
     let node = book::node_at(book, base, n);
-    let left = facts_at(table, left_from(n, node));
-    let right = facts_at(table, right_from(n, node));
-    put(table, n, ruled(node, left, right))
+    let facts = ruled(node, table);
+    put(table, n, facts)
+}
+
+// Visits every node upward. Whether any fact changed.
+fn visit_all(book: &[u8], base: usize, count: usize, table: &mut [u64]) -> bool
+    requires { ⌜ GoodNodes (now book) base count 64 ⌝ }
+    requires { ⌜ 4 * count ≤ length (now table) ⌝ }
+    requires { ⌜ Sound (FactAt (nodes (now book) base count)) (now table) ⌝ }
+    ensures { λ r. ⌜ Climbed (nodes (now (book .entry)) base count) count (now (table .entry)) (now (table .exit)) r ⌝ }
+{
+    let mut changed = false;
+    let mut i = 0;
+    while i < count {
+        changed = changed | visit(book, base, count, i, table);
+        i += 1;
+    }
+    changed
+}
+
+// Whether a node is a ref.
+fn is_ref(node: Node) -> bool
+    ensures { λ r. ⌜ r ≡ isRef node ⌝ }
+{
+    match node {
+        Node::Fail => false,
+        Node::Empty => false,
+        Node::Token(_) => false,
+        Node::Either(_, _) => false,
+        Node::Then(_, _) => false,
+        Node::Tagged(_, _) => false,
+        Node::Ref(_) => true,
+    }
+}
+
+// Joins the facts of a node with those of its left if it is a ref. Whether any changed.
+fn visit_ref(book: &[u8], base: usize, count: usize, n: usize, table: &mut [u64]) -> bool
+    requires { ⌜ GoodNodes (now book) base count 64 ⌝ }
+    requires { ⌜ n < count ⌝ }
+    requires { ⌜ 4 * count ≤ length (now table) ⌝ }
+    requires { ⌜ Sound (FactAt (nodes (now book) base count)) (now table) ⌝ }
+    ensures { λ r. ⌜ Visited (FactAt (nodes (now (book .entry)) base count)) (RefClosed (nodes (now (book .entry)) base count)) n (now (table .entry)) (now (table .exit)) r ⌝ }
+{
+    let node = book::node_at(book, base, n);
+    if is_ref(node) {
+        let facts = facts_at(table, left_from(n, node));
+        put(table, n, facts)
+    } else {
+        false
+    }
 }
 
 // The node visited at a step of a turn, downward or upward.
@@ -169,32 +218,32 @@ fn visited(count: usize, downward: bool, i: usize) -> usize
     if downward { count - 1 - i } else { i }
 }
 
-// Visits every node once, downward or upward. Whether any fact changed.
-fn turn(book: &[u8], base: usize, count: usize, downward: bool, table: &mut [u64]) -> bool
+// Visits every ref downward. Whether any fact changed.
+fn visit_refs(book: &[u8], base: usize, count: usize, table: &mut [u64]) -> bool
     requires { ⌜ GoodNodes (now book) base count 64 ⌝ }
     requires { ⌜ 4 * count ≤ length (now table) ⌝ }
     requires { ⌜ Sound (FactAt (nodes (now book) base count)) (now table) ⌝ }
-    ensures { λ r. ⌜ Turned (FactAt (nodes (now (book .entry)) base count)) (RuleClosed (nodes (now (book .entry)) base count)) count (now (table .entry)) (now (table .exit)) r ⌝ }
+    ensures { λ r. ⌜ Turned (FactAt (nodes (now (book .entry)) base count)) (RefClosed (nodes (now (book .entry)) base count)) count (now (table .entry)) (now (table .exit)) r ⌝ }
 {
     let mut changed = false;
     let mut i = 0;
     while i < count {
-        changed = changed | visit(book, base, count, visited(count, downward, i), table);
+        changed = changed | visit_ref(book, base, count, visited(count, true, i), table);
         i += 1;
     }
     changed
 }
 
-// Fills the table, which is blank, with the facts of all nodes: turns, upward and downward by turns, until one changes nothing. Upward
-// comes first, since all but refs have lower sides.
+// Fills the table, which is blank, with the facts of all nodes. All but refs have lower sides, so that after visits upward refs alone
+// can lack facts, and where none does, the table has them all.
 pub fn least_facts(book: &[u8], base: usize, count: usize, table: &mut [u64])
     requires { ⌜ GoodNodes (now book) base count 64 ⌝ }
     requires { ⌜ Blank (4 * count) (now table) ⌝ }
     ensures { λ _. ⌜ Facts (nodes (now (book .entry)) base count) count (now (table .exit)) ⌝ }
 {
-    let mut downward = false;
-    while turn(book, base, count, downward, table) {
-        downward = !downward;
+    visit_all(book, base, count, table);
+    while visit_refs(book, base, count, table) {
+        visit_all(book, base, count, table);
     }
 }
 

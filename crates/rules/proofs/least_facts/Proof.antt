@@ -1,39 +1,80 @@
--- `rules::least_facts` meets its contract. The loop's invariant: all that the table has is by the rules. The measure is what is left for the
--- sum of the table's numbers to grow.
+-- `rules::least_facts` meets its contract. The loop's invariant: all that the table has is by the rules, and it has what they give all nodes
+-- but refs. The measure is what is left for the sum of the table's numbers to grow.
+use Prim.Native.Nat.{ℕ, _<_}
+use mathlib.Core.Path.{_≡_, ap, _∙_}
+use mathlib.Core.Bool.{Bool, false, _||_}
 use native.Mathlib.Omega.{arith}
 use lib.ListN.{length}
 use Rattle.book.specs.Decode.{nodes}
-use Rattle.rules.specs.Step.{FactAt}
-use Rattle.rules.proofs.Growing.{blank-sound, Settling, settling-none, settling-more, settling-less, roomLeft}
-use Rattle.rules.proofs.Complete.{turned-facts}
+use Rattle.rules.specs.Step.{FactAt, isRef, RuleClosed}
+use Rattle.rules.proofs.Growing.{blank-sound, grown-sound, grown-then, Settling, settling-none, settling-more, settling-less, roomLeft}
+use Rattle.rules.proofs.Climbing.{refs-facts}
 use Rattle.rules.proofs.least_facts.Statement.{statement}
 use Rattle.rules.proofs.least_facts.Tie as tie
 
 abbrev Inv-loop : tie.InvT-loop
-Inv-loop book base count table₀ downward₀ table downward = Settling (FactAt (nodes book base count)) table₀ table
+Inv-loop book base count table₀ table =
+    Settling (FactAt (nodes book base count)) table₀ table
+    × ((n : ℕ) → n < count → isRef (nodes book base count n) ≡ false → RuleClosed (nodes book base count) table n)
 
 abbrev μ-loop : tie.MeasureT-loop
-μ-loop book base count table₀ downward₀ table downward = roomLeft (length table₀) table
+μ-loop book base count table₀ table = roomLeft (length table₀) table
+
+visit-all-requires : tie.Need-visit-all-requires Inv-loop μ-loop
+visit-all-requires c κs =
+    let pre = c .before .before .before .pre in
+    (pre .0, (pre .1 .long, blank-sound (pre .1)))
 
 loop-holds : tie.Need-loop-holds Inv-loop μ-loop
-loop-holds c = settling-none (blank-sound (c .before .before .pre .1))
+loop-holds c =
+    let climbed = c .before .before .visit-all .ensures in
+    (settling-none (grown-sound (climbed .grown) (blank-sound (c .before .before .before .before .before .before .pre .1))), climbed .closed)
 
-turn-requires : tie.Need-turn-requires Inv-loop μ-loop
-turn-requires c κs = (c .before .before .before .before .pre .0, (omega (arith, c .before .before .before .before .pre .1 .long, c .before .loop .inv .long), c .before .loop .inv .sound))
+visit-refs-requires : tie.Need-visit-refs-requires Inv-loop μ-loop
+visit-refs-requires c κs =
+    let pre = c .before .before .before .before .before .before .before .before .pre in
+    let settling = c .before .loop .inv .0 in
+    (pre .0, (omega (arith, pre .1 .long, c .before .before .before .before .visit-all .ensures .grown .long, settling .long), settling .sound))
+
+visit-all-requires-2 : tie.Need-visit-all-requires-2 Inv-loop μ-loop
+visit-all-requires-2 c κs =
+    let pre = c .before .before .before .before .before .before .before .before .before .before .before .before .before .pre in
+    let settling = settling-more (c .before .before .before .before .before .before .loop .inv .0) (c .before .before .before .before .visit-refs .ensures .grown) in
+    (pre .0, (omega (arith, pre .1 .long, c .before .before .before .before .before .before .before .before .before .visit-all .ensures .grown .long, settling .long), settling .sound))
 
 loop-less : tie.Need-loop-less Inv-loop μ-loop
-loop-less c = settling-less (c .before .before .before .before .before .loop .inv) (c .before .before .before .turn .ensures .grown) (c .if1 .taken) (λ i. c .before .slice-known2 .given i .fits)
+loop-less c =
+    settling-less (c .before .before .before .before .before .before .before .before .before .loop .inv .0) (grown-then (c .before .before .before .before .before .before .before .visit-refs .ensures .grown) (c .before .before .visit-all2 .ensures .grown))
+    (ap (λ (changed : Bool). changed || c .before .before .visit-all2 .result) (c .before .before .before .before .if1 .taken))
+    (λ i. c .slice-known4 .given i .fits)
 
 loop-again : tie.Need-loop-again Inv-loop μ-loop
-loop-again c = settling-more (c .before .before .before .before .before .loop .inv) (c .before .before .before .turn .ensures .grown)
+loop-again c = (
+  settling-more (settling-more (c .before .before .before .before .before .before .before .before .before .loop .inv .0) (c .before .before .before .before .before .before .before .visit-refs .ensures .grown)) (c .before .before .visit-all2 .ensures .grown),
+  c .before .before .visit-all2 .ensures .closed,
+)
 
 same-length : tie.Need-same-length Inv-loop μ-loop
-same-length c = settling-more (c .before .before .before .before .before .loop .inv) (c .before .before .before .turn .ensures .grown) .long
+same-length c =
+    settling-more (c .before .before .before .before .before .loop .inv .0) (c .before .before .before .visit-refs .ensures .grown) .long
+    ∙ c .before .before .before .before .before .before .before .before .visit-all .ensures .grown .long
 
 returns : tie.Need-returns Inv-loop μ-loop
-returns c = turned-facts (c .before .before .before .before .before .before .before .before .pre .0 .proper) (c .before .before .before .before .before .loop .inv .sound) (c .before .before .before .turn .ensures) (c .if1 .left)
+returns c =
+    let (settling, closed) = c .before .before .before .before .before .loop .inv in
+    refs-facts (c .before .before .before .before .before .before .before .before .before .before .before .before .pre .0 .proper) (settling .sound) closed (c .before .before .before .visit-refs .ensures) (c .if1 .left)
 
 pub least-facts-spec : {M : Type 1} → statement M
 least-facts-spec =
     tie.close
-    (tie.spec Inv-loop μ-loop loop-holds turn-requires loop-less loop-again same-length returns)
+    (tie.spec
+    Inv-loop
+    μ-loop
+    visit-all-requires
+    loop-holds
+    visit-refs-requires
+    visit-all-requires-2
+    loop-less
+    loop-again
+    same-length
+    returns)

@@ -1,6 +1,6 @@
 -- `rules::put` meets its contract: four sets joined, one after another.
 use borrow.Author.Needs.{needs}
-use Rattle.rules.proofs.Steps.{put-visited}
+use Rattle.rules.proofs.Steps.{facts-put}
 use Rattle.rules.proofs.put.Statement.{statement}
 use Rattle.rules.proofs.put.Tie as tie
 
@@ -33,7 +33,7 @@ same-length c = search needs
 
 returns : tie.Need-returns
 returns c =
-    put-visited (c .before .before .before .before .before .before .before .before .before .before .before .before .before .before .before .before .before .pre)
+    facts-put (c .before .before .before .before .before .before .before .before .before .before .before .before .before .before .before .before .before .pre)
     (c .before .before .before .before .before .before .before .before .before .before .before .before .before .before .grow .ensures)
     (c .before .before .before .before .before .before .before .before .before .before .grow2 .ensures)
     (c .before .before .before .before .before .before .grow3 .ensures)

@@ -1,19 +1,20 @@
--- `rules::turn` meets its contract. The loop's invariant: the first steps of the turn have been made. The measure is what is left of them.
+-- `rules::visit_refs` meets its contract. The loop's invariant: the first steps of the turn have been made. The measure is what is left of them.
 use Prim.Native.Nat.{_-_}
+use mathlib.Core.Bool.{true}
 use native.Mathlib.Omega.{arith}
 use borrow.Author.Needs.{needs}
 use Rattle.book.specs.Decode.{nodes}
-use Rattle.rules.specs.Step.{FactAt, RuleClosed}
+use Rattle.rules.specs.Step.{FactAt, RefClosed}
 use Rattle.rules.proofs.Growing.{Turning, turning-none, turning-more, turning-end, grown-sound}
-use Rattle.rules.proofs.turn.Statement.{statement}
-use Rattle.rules.proofs.turn.Tie as tie
+use Rattle.rules.proofs.visit_refs.Statement.{statement}
+use Rattle.rules.proofs.visit_refs.Tie as tie
 
 abbrev Inv-loop : tie.InvT-loop
-Inv-loop book base count downward table₀ changed₀ i₀ table changed i =
-    Turning (FactAt (nodes book base count)) (RuleClosed (nodes book base count)) count downward table₀ table i changed
+Inv-loop book base count table₀ changed₀ i₀ table changed i =
+    Turning (FactAt (nodes book base count)) (RefClosed (nodes book base count)) count true table₀ table i changed
 
 abbrev μ-loop : tie.MeasureT-loop
-μ-loop book base count downward table₀ changed₀ i₀ table changed i = count - i
+μ-loop book base count table₀ changed₀ i₀ table changed i = count - i
 
 loop-holds : tie.Need-loop-holds Inv-loop μ-loop
 loop-holds c = turning-none _
@@ -21,8 +22,8 @@ loop-holds c = turning-none _
 visited-requires : tie.Need-visited-requires Inv-loop μ-loop
 visited-requires c κs = search needs
 
-visit-requires : tie.Need-visit-requires Inv-loop μ-loop
-visit-requires c κs =
+visit-ref-requires : tie.Need-visit-ref-requires Inv-loop μ-loop
+visit-ref-requires c κs =
     let turning = c .before .before .before .loop .inv in
     let pre = c .before .before .before .before .before .before .pre in (
       pre .0,
@@ -40,7 +41,7 @@ loop-less c = search needs
 
 loop-again : tie.Need-loop-again Inv-loop μ-loop
 loop-again c =
-    turning-more (c .before .before .before .before .before .before .loop .inv) (c .before .before .before .before .visited .ensures .0) (c .before .before .visit .ensures)
+    turning-more (c .before .before .before .before .before .before .loop .inv) (c .before .before .before .before .visited .ensures .0) (c .before .before .visit-ref .ensures)
 
 same-length : tie.Need-same-length Inv-loop μ-loop
 same-length c = c .before .loop .inv .grown .long
@@ -48,15 +49,15 @@ same-length c = c .before .loop .inv .grown .long
 returns : tie.Need-returns Inv-loop μ-loop
 returns c = turning-end (c .before .loop .inv) (c .loop-test .left)
 
-pub turn-spec : {M : Type 1} → statement M
-turn-spec =
+pub visit-refs-spec : {M : Type 1} → statement M
+visit-refs-spec =
     tie.close
     (tie.spec
     Inv-loop
     μ-loop
     loop-holds
     visited-requires
-    visit-requires
+    visit-ref-requires
     add-i
     loop-less
     loop-again
