@@ -13,8 +13,8 @@ use Rattle.rules.specs.Rules.{Reach}
 use Rattle.compiler.specs.declared.Compiled.{Compiled}
 use Rattle.compiler.specs.Compiles.{Compiles, sizeOf}
 use Rattle.compiler.proofs.Some.{compiles-some}
-use Rattle.compiler.proofs.Unique.{compiles-unique}
-use Rattle.compiler.proofs.Promise.{answer-listed, room-kept, refused-clear, passes-exactly, passed-plan, passed-cell, passed-last}
+use Rattle.compiler.proofs.Unique.{compiles-unique, marks-unique}
+use Rattle.compiler.proofs.Promise.{answer-listed, room-kept, refused-clear, passed, passes-exactly, passed-plan, passed-cell, passed-last}
 use Rattle.compiler.proofs.ShutOut.{not-all-refused, not-all-passed, not-all-clear}
 use Rattle.reader.specs.declared.Reading.{Reading}
 use Rattle.reader.specs.Numbers.{DEEP, NO-ROOM}
@@ -75,6 +75,13 @@ pub demand-2-plan : {bytes : List ℕ} {room : ℕ} {a : Compiled} {plan : List 
     → {marks : Marks} → Marked (bookOf bytes .node) marks → PlanByRules bytes room plan marks
 demand-2-plan compiled is marked =
     record { plan-is = passed-plan compiled is marked; cell-is = passed-cell compiled is marked; mark-is = passed-last compiled is marked }
+
+-- there are such marks, and these only
+pub demand-2-facts : {bytes : List ℕ} {room : ℕ} {a : Compiled} {plan : List ℕ} → Compiles bytes room a plan → a .number ≡ DONE
+    → (marks : Marks) × Marked (bookOf bytes .node) marks × ((other : Marks) → Marked (bookOf bytes .node) other → other ≡ marks)
+demand-2-facts compiled is =
+    let known = passed compiled is in
+    (known .marks, known .marked, λ other marked. marks-unique marked (known .marked))
 
 -- Demand 3
 module _ {bytes : List ℕ} {room : ℕ} {a : Compiled} {plan : List ℕ} (compiled : Compiles bytes room a plan) (is : a .number ≡ DONE) where
