@@ -12,4 +12,5 @@ pub mod Unique
 pub mod Verdict
 pub mod Theorem
 pub mod Limits
+pub mod Walks
 pub mod Slots

@@ -8,7 +8,7 @@ use lib.ListN.{length, take}
 use Rattle.book.specs.Book.{Book}
 use Rattle.words.specs.Words.{zeros}
 use Rattle.book.specs.Form.{DONE, formOf, bookOf}
-use Rattle.plan.specs.Cells.{Marks, Marked}
+use Rattle.plan.specs.Cells.{Marks, Marked, cellOf}
 use Rattle.rules.specs.Rules.{Reach}
 use Rattle.compiler.specs.declared.Compiled.{Compiled}
 use Rattle.compiler.specs.Compiles.{Compiles, sizeOf}
@@ -23,9 +23,11 @@ use Rattle.reader.specs.Steps.{steps, closed, begun}
 use Rattle.reader.proofs.Answers.{reads-unique, read-told, number-listed, tree-length, refused-zero, records-counted, records-bounded}
 use Rattle.reader.proofs.Fold.{reading-steps}
 use Rattle.plan.specs.Form.{planFrom}
-use Rattle.plan.specs.Running.{Plan, reading}
+use Rattle.plan.specs.Running.{Plan, taken, walk, reading}
 use Rattle.meaning.specs.Meaning.{Derives, Passes}
+use Rattle.meaning.specs.Plans.{freePlan}
 use Rattle.meaning.proofs.Unique.{derivation-unique}
+use Rattle.meaning.proofs.Walks.{walks-take}
 use Rattle.worked.specs.Worked.{Each, Holds, table}
 use Rattle.worked.proofs.Checked.{worked}
 use Rattle.promises.specs.Promises.{CompileAnswers, ReadAnswers, PassesExactly, PlanByRules, slotsEnough, roomEnough, ReadsAsMeant, FewRecords, OneDerivation, wider}
@@ -93,6 +95,12 @@ module _ {bytes : List ℕ} {room : ℕ} {a : Compiled} {plan : List ℕ} (compi
   pub demand-3-records : (run : List ℕ) (slots tree-room : ℕ) → readOf (take (a .size) plan) run slots tree-room .reading .number ≡ DONE
       → FewRecords (bookOf bytes .count) (length run) (readOf (take (a .size) plan) run slots tree-room .reading .records)
   demand-3-records run slots tree-room done = passed-records compiled is run slots tree-room done
+
+  -- every walk that begins takes its event: on the plan of a passed book no zero is met in a walk, and no walk runs away
+  pub demand-3-walks : (marks : Marks) → Marked (bookOf bytes .node) marks → (n k : ℕ) → Reach (bookOf bytes .node) (bookOf bytes .start) n
+      → cellOf marks k n (bookOf bytes .node n) ≢ 0 → (held : List ℕ)
+      → (then records : List ℕ) × (walk (freePlan (bookOf bytes) marks) k (bookOf bytes .count) n held ≡ taken then records)
+  demand-3-walks marks marked n k reached some held = walks-take (passed-passes compiled is) marks marked n k reached some held
 
   -- the only derivation there is
   pub demand-3-one-derivation : (n : ℕ) → Reach (bookOf bytes .node) (bookOf bytes .start) n → {run : List ℕ}
