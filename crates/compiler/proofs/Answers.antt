@@ -19,7 +19,7 @@ use Rattle.book.specs.Book.{WellFormed, Proper, fail-is, empty-is, token-is, ei
 use Rattle.book.specs.Decode.{nodes, GoodNodes}
 use Rattle.book.specs.Form.{DONE, settingsAt, nodesAt, countOf, formOf, bookOf}
 use Rattle.book.proofs.Decoded.{formed, well-formed}
-use Rattle.rules.specs.Rules.{Productive, Nullable, First, Reach}
+use Rattle.grammar.specs.Rules.{Productive, Nullable, First, Reach}
 use Rattle.rules.specs.Facts.{Reached, Marked as Among}
 use Rattle.rules.specs.Conflicts.{Reported, ConflictAt, LowestConflict}
 use Rattle.plan.specs.Cells.{Marked}
@@ -27,7 +27,8 @@ use Rattle.plan.specs.Form.{planSize}
 use Rattle.plan.specs.Bytes.{planBytes}
 use Rattle.plan.specs.Table.{marksOf, firstSet, nullSet}
 use Rattle.compiler.specs.declared.Compiled.{Compiled}
-use Rattle.compiler.specs.Compiles.{Compiles, malformed, barren, conflict, no-room, done, answer, BARREN, CONFLICT, PLAN-ROOM, Fruitful, sizeOf}
+use Rattle.grammar.specs.Passing.{Fruitful}
+use Rattle.compiler.specs.Compiles.{Compiles, malformed, barren, conflict, no-room, done, answer, BARREN, CONFLICT, PLAN-ROOM, sizeOf}
 use Rattle.compiler.specs.Stages.{Clear, GoodForm, Known, Sound}
 use Rattle.compiler.proofs.Bounds.{named-below, first-kind, reported-small, reach-below}
 

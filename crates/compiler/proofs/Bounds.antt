@@ -7,7 +7,7 @@ use Rattle.book.specs.declared.Node.{Node}
 use Rattle.book.specs.declared.Node.the-variants.{Fail}
 use Rattle.book.specs.Book.{Book, WellFormed, Proper, either-is, then-is, tagged-is, ref-is}
 use Rattle.rules.proofs.Laws.{first-below}
-use Rattle.rules.specs.Rules.{First, Child, either-left, either-right, then-left, then-right, tagged-left, ref-left, Reach, r-start, r-child}
+use Rattle.grammar.specs.Rules.{First, Child, either-left, either-right, then-left, then-right, tagged-left, ref-left, Reach, r-start, r-child}
 use Rattle.rules.specs.Conflicts.{Reported, both-nullable, in-both-first, in-snf-and-first}
 
 module _ (book : Book) (wf : WellFormed book) where

@@ -9,7 +9,7 @@ use Rattle.words.proofs.Tests.{both, joined}
 use Rattle.book.specs.declared.Node.{Node}
 use Rattle.book.specs.declared.Node.the-variants.{Fail, Empty, Token, Either, Then, Tagged, Ref}
 use Rattle.book.specs.Book.{Book, WellFormed}
-use Rattle.rules.specs.Rules.{Productive, p-empty, p-token, p-left, p-right, p-then, p-tagged, p-ref, Nullable, n-empty, n-left, n-right, n-then, n-tagged, n-ref, First, f-token, f-left, f-right, f-hold, f-skip, f-tagged, f-ref, Snf, s-left, s-right, s-first-left, s-first-right, s-then-left, s-then-right, s-tagged, s-ref}
+use Rattle.grammar.specs.Rules.{Productive, p-empty, p-token, p-left, p-right, p-then, p-tagged, p-ref, Nullable, n-empty, n-left, n-right, n-then, n-tagged, n-ref, First, f-token, f-left, f-right, f-hold, f-skip, f-tagged, f-ref, Snf, s-left, s-right, s-first-left, s-first-right, s-then-left, s-then-right, s-tagged, s-ref}
 use Rattle.compiler.proofs.Bounds.{named-below}
 use Rattle.compiler.proofs.Least.{Decided, decided, or-cases, or-left, or-right}
 

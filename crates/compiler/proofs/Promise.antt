@@ -19,7 +19,8 @@ use Rattle.plan.specs.Form.{rowAt, planSize, cellAt}
 use Rattle.plan.proofs.PlanBytes.{size-is, cell-is, mark-is}
 use Rattle.plan.specs.Bytes.{planBytes}
 use Rattle.compiler.specs.declared.Compiled.{Compiled}
-use Rattle.compiler.specs.Compiles.{Compiles, malformed, barren, conflict, no-room, done, Fruitful, Free, PLAN-ROOM, sizeOf}
+use Rattle.grammar.specs.Passing.{Fruitful, Free}
+use Rattle.compiler.specs.Compiles.{Compiles, malformed, barren, conflict, no-room, done, PLAN-ROOM, sizeOf}
 use Rattle.compiler.proofs.Unique.{reported-conflict, marks-unique}
 use Rattle.compiler.proofs.Some.{compiles-some}
 

@@ -11,7 +11,7 @@ use Rattle.words.proofs.Tests.{both, joined}
 use Rattle.book.specs.declared.Node.{Node}
 use Rattle.book.specs.declared.Node.the-variants.{Fail, Empty, Token, Either, Then, Tagged, Ref}
 use Rattle.book.specs.Book.{Book, WellFormed}
-use Rattle.rules.specs.Rules.{Child, either-left, either-right, then-left, then-right, tagged-left, ref-left, Reach, r-start, r-child}
+use Rattle.grammar.specs.Rules.{Child, either-left, either-right, then-left, then-right, tagged-left, ref-left, Reach, r-start, r-child}
 use Rattle.compiler.proofs.Bounds.{parent-below, child-below}
 use Rattle.compiler.proofs.Least.{Decided, decided, or-cases, or-left, or-right}
 

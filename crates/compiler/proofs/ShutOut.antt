@@ -9,12 +9,13 @@ use mathlib.Core.List.{List, [], _∷_, _++_}
 use Rattle.words.specs.Words.{u16At, zeros}
 use Rattle.book.specs.Decode.{nodes, nodeAt, nodeGood, firstBad}
 use Rattle.book.specs.Form.{DONE, formOf, bookOf}
-use Rattle.rules.specs.Rules.{p-empty}
+use Rattle.grammar.specs.Rules.{p-empty}
 use Rattle.rules.proofs.Growing.{blank-zeros}
 use Rattle.plan.specs.Cells.{Marks}
 use Rattle.plan.specs.Bytes.{planBytes, planContents, wordBytes}
 use Rattle.compiler.specs.declared.Compiled.{Compiled}
-use Rattle.compiler.specs.Compiles.{Compiles, Fruitful, Free, sizeOf}
+use Rattle.grammar.specs.Passing.{Fruitful, Free}
+use Rattle.compiler.specs.Compiles.{Compiles, sizeOf}
 use Rattle.compiler.proofs.Promise.{passed, free-passes}
 
 -- a book of one node of a type with no fields, over one kind

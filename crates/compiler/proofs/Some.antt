@@ -11,11 +11,12 @@ use Rattle.book.specs.declared.Node.the-variants.{Fail, Empty, Token, Either, T
 use Rattle.book.specs.Book.{Book, WellFormed}
 use Rattle.book.specs.Form.{DONE, formOf, bookOf}
 use Rattle.book.proofs.Decoded.{formed, well-formed}
-use Rattle.rules.specs.Rules.{Nullable, First, Snf, Conflict, c-nullable, c-first, c-follow, Reach}
+use Rattle.grammar.specs.Rules.{Nullable, First, Snf, Conflict, c-nullable, c-first, c-follow, Reach}
 use Rattle.rules.specs.Conflicts.{LowestKind, Reported, both-nullable, in-both-first, in-snf-and-first}
 use Rattle.plan.specs.Cells.{Marks, Marked}
 use Rattle.compiler.specs.declared.Compiled.{Compiled}
-use Rattle.compiler.specs.Compiles.{Compiles, malformed, barren, conflict, no-room, done, Fruitful, Free, sizeOf}
+use Rattle.grammar.specs.Passing.{Fruitful, Free}
+use Rattle.compiler.specs.Compiles.{Compiles, malformed, barren, conflict, no-room, done, sizeOf}
 use Rattle.compiler.proofs.Least.{Decided, truth}
 use Rattle.compiler.proofs.Decisions.{productive-decided, nullable-decided, first-decided, snf-decided}
 use Rattle.compiler.proofs.Reaching.{reach-decided}

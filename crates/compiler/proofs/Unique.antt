@@ -10,7 +10,7 @@ use Rattle.words.specs.Words.{zeros}
 use Rattle.book.specs.declared.Node.{Node}
 use Rattle.book.specs.Book.{Book}
 use Rattle.book.specs.Form.{bookOf}
-use Rattle.rules.specs.Rules.{Conflict, c-nullable, c-first, c-follow, Reach}
+use Rattle.grammar.specs.Rules.{Conflict, c-nullable, c-first, c-follow, Reach}
 use Rattle.rules.specs.Conflicts.{LowestKind, Reported, both-nullable, in-both-first, in-snf-and-first}
 use Rattle.plan.specs.Cells.{Marks, Marked}
 use Rattle.plan.specs.Bytes.{planBytes}

@@ -6,7 +6,8 @@ use mathlib.Core.List.{List, _++_}
 use Rattle.words.specs.Words.{zeros}
 use Rattle.book.specs.Book.{Book}
 use Rattle.book.specs.Form.{DONE, formOf, bookOf}
-use Rattle.rules.specs.Rules.{Productive, Conflict, Reach}
+use Rattle.grammar.specs.Rules.{Conflict, Reach}
+use Rattle.grammar.specs.Passing.{Fruitful, Free}
 use Rattle.rules.specs.Conflicts.{Reported}
 use Rattle.plan.specs.Cells.{Marks, Marked}
 use Rattle.plan.specs.Form.{planSize}
@@ -28,17 +29,9 @@ abbrev pub answer : ℕ → ℕ → ℕ → ℕ → Compiled
 answer number place kind size = record { number = number; place = place; kind = kind; size = size }
 
 module _ (book : Book) where
-  -- the start can produce some run
-  abbrev pub Fruitful : Type 0
-  Fruitful = Productive (book .node) (book .node (book .start))
-
   -- no node below a number that is reachable from the start has a conflict
   abbrev pub FreeBelow : ℕ → Type 0
   FreeBelow n = (m : ℕ) → m < n → Reach (book .node) (book .start) m → Conflict (book .node) (book .node m) → ⊥
-
-  -- no node reachable from the start has a conflict
-  abbrev pub Free : Type 0
-  Free = (m : ℕ) → Reach (book .node) (book .start) m → Conflict (book .node) (book .node m) → ⊥
 
   -- the size of the book's plan
   abbrev pub sizeOf : ℕ

@@ -7,7 +7,7 @@ use Rattle.words.specs.Words.{zeros}
 use Rattle.book.specs.Decode.{nodes}
 use Rattle.book.specs.Form.{DONE, nodesAt, formOf, bookOf}
 use Rattle.rules.specs.Facts.{Facts}
-use Rattle.compiler.specs.Compiles.{Fruitful, Free}
+use Rattle.grammar.specs.Passing.{Fruitful, Free}
 
 -- a buffer that is all zeros
 pub record Clear (plan : List ℕ) : Type 0 where

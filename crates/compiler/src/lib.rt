@@ -5,7 +5,7 @@ ghost use lib.ListN.{length};
 ghost use Rattle.book.specs.Decode.{nodes};
 ghost use Rattle.book.specs.Form.{nodesAt, countOf, bookOf};
 ghost use Rattle.plan.specs.Form.{planSize};
-ghost use Rattle.rules.specs.Rules.{Reach};
+ghost use Rattle.grammar.specs.Rules.{Reach};
 ghost use Rattle.rules.specs.Growth.{Blank};
 ghost use Rattle.rules.specs.Conflicts.{LowestConflict};
 ghost use Rattle.compiler.specs.Compiles.{Compiles, answer};

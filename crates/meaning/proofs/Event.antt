@@ -7,14 +7,14 @@ use mathlib.Core.Bool.{Bool, true, false, false≢true}
 use mathlib.Core.List.{List, [], _∷_, _++_}
 use Rattle.book.specs.Book.{Book, WellFormed}
 use Rattle.book.specs.declared.Node.{Node}
-use Rattle.rules.specs.Rules.{First, Nullable}
+use Rattle.grammar.specs.Rules.{First, Nullable}
 use Rattle.plan.specs.Cells.{Marks, Marked}
 use Rattle.plan.specs.Running.{Step, taken, refused, emptied, noted, takeOff, walk, event}
 use Rattle.meaning.specs.Plans.{freePlan}
-use Rattle.meaning.proofs.Facts.{nullable-first-snf}
+use Rattle.grammar.proofs.Facts.{nullable-first-snf}
 use Rattle.meaning.proofs.Parts.{Held, held-none, held-some}
 use Rattle.meaning.proofs.Walk.{after, recorded, size, part-first, walk-sound, walk-complete}
-use Rattle.meaning.proofs.Clear.{Clear}
+use Rattle.grammar.proofs.Clear.{Clear}
 use Rattle.meaning.proofs.Machine.{walk-is, cell-first, cell-other}
 use Rattle.meaning.proofs.Size.{size-below}
 use Rattle.meaning.proofs.Orderly.{Apart, Orderly, orderly-part, held-nothing, walk-orderly}

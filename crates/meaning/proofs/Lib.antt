@@ -1,8 +1,6 @@
 -- What the rules' facts say of runs, and that reading keeps to what a book means.
-pub mod Facts
 pub mod Parts
 pub mod Walk
-pub mod Clear
 pub mod Machine
 pub mod Size
 pub mod Orderly

@@ -8,14 +8,14 @@ use mathlib.Core.List.{List, _∷_}
 use Rattle.book.specs.Book.{Book, leftOf, rightOf}
 use Rattle.book.specs.declared.Node.{Node}
 use Rattle.book.specs.declared.Node.the-variants.{Fail, Empty, Token, Either, Then, Tagged, Ref}
-use Rattle.rules.specs.Rules.{First, f-token, f-left, f-right, f-hold, f-skip, f-tagged, f-ref, c-first, c-follow}
-use Rattle.rules.specs.Rules.{either-left, either-right, then-left, then-right, tagged-left, ref-left}
+use Rattle.grammar.specs.Rules.{First, f-token, f-left, f-right, f-hold, f-skip, f-tagged, f-ref, c-first, c-follow}
+use Rattle.grammar.specs.Rules.{either-left, either-right, then-left, then-right, tagged-left, ref-left}
 use Rattle.plan.specs.Cells.{Marks, Marked, cellOf}
 use Rattle.plan.specs.Running.{emptied, Step, taken, noted, visit, walk}
 use Rattle.meaning.specs.Plans.{freePlan}
-use Rattle.meaning.proofs.Facts.{nullable-first-snf}
+use Rattle.grammar.proofs.Facts.{nullable-first-snf}
 use Rattle.meaning.proofs.Walk.{after, recorded, size}
-use Rattle.meaning.proofs.Clear.{Clear, clear-child, clear-here}
+use Rattle.grammar.proofs.Clear.{Clear, clear-child, clear-here}
 
 -- what is not true is false
 pub false-unless : (t : Bool) → (t ≡ true → ⊥) → t ≡ false

@@ -3,15 +3,15 @@ use Prim.Native.Nat.{ℕ}
 use mathlib.Core.List.{List, [], _∷_, _++_}
 use Rattle.book.specs.declared.Node.{Node}
 use Rattle.book.specs.declared.Node.the-variants.{Then}
-use Rattle.rules.specs.Rules.{Productive}
-use Rattle.rules.specs.Rules.{First, f-token, f-left, f-right, f-hold, f-skip, f-tagged, f-ref}
-use Rattle.rules.specs.Rules.{Snf, s-left, s-right, s-then-left, s-then-right, s-tagged, s-ref, c-follow}
-use Rattle.rules.specs.Rules.{either-left, either-right, then-left, then-right, tagged-left, ref-left}
+use Rattle.grammar.specs.Rules.{Productive}
+use Rattle.grammar.specs.Rules.{First, f-token, f-left, f-right, f-hold, f-skip, f-tagged, f-ref}
+use Rattle.grammar.specs.Rules.{Snf, s-left, s-right, s-then-left, s-then-right, s-tagged, s-ref, c-follow}
+use Rattle.grammar.specs.Rules.{either-left, either-right, then-left, then-right, tagged-left, ref-left}
 use Rattle.meaning.specs.Meaning.{tree}
-use Rattle.meaning.proofs.Facts.{nullable-productive, first-productive, productive-derives}
+use Rattle.grammar.proofs.Facts.{nullable-productive, first-productive, productive-derives}
 use Rattle.meaning.proofs.Parts.{Held, held-end, held-none, held-some, derives-before}
 use Rattle.meaning.proofs.Walk.{after, part-first}
-use Rattle.meaning.proofs.Clear.{Clear, clear-child, clear-here}
+use Rattle.grammar.proofs.Clear.{Clear, clear-child, clear-here}
 
 -- a node stands apart from parts held: no kind that should not follow it begins a run that they derive
 pub record Apart (node : ℕ → Node) (top : Node) (held : List ℕ) : Type 0 where

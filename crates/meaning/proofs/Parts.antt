@@ -5,10 +5,11 @@ use mathlib.Core.Path.{_≡_, refl, ap, _∙_}
 use mathlib.Core.List.{List, [], _∷_, _++_, append-nil, append-assoc}
 use Rattle.book.specs.declared.Node.{Node}
 use Rattle.book.specs.declared.Node.the-variants.{Token, Either, Then, Tagged, Ref}
-use Rattle.rules.specs.Rules.{Nullable, n-empty, n-left, n-right, n-then, n-tagged, n-ref}
+use Rattle.grammar.specs.Rules.{Nullable, n-empty, n-left, n-right, n-then, n-tagged, n-ref}
 use Rattle.plan.specs.Running.{emptied}
-use Rattle.meaning.specs.Meaning.{Derives, d-empty, d-token, d-left, d-right, d-then, d-tagged, d-ref, partRecords, parts, tree}
-use Rattle.meaning.proofs.Facts.{nullable-derives-empty, derives-opens}
+use Rattle.grammar.specs.Derivations.{Derives, d-empty, d-token, d-left, d-right, d-then, d-tagged, d-ref}
+use Rattle.meaning.specs.Meaning.{partRecords, parts, tree}
+use Rattle.grammar.proofs.Facts.{nullable-derives-empty, derives-opens}
 
 -- the node of a number derives a run that begins with a kind: behind the kind stands the rest of that run and then a rest, and the
 -- records are its own and then others

@@ -9,7 +9,7 @@ use lib.Dec.{ltb}
 use borrow.Author.Tests.{ltb-true, ltb-false}
 use Rattle.book.specs.Book.{Book, WellFormed}
 use Rattle.book.specs.declared.Node.{Node}
-use Rattle.rules.specs.Rules.{Nullable}
+use Rattle.grammar.specs.Rules.{Nullable}
 use Rattle.plan.specs.Cells.{Marks, Marked}
 use Rattle.plan.specs.Running.{Step, Answer, accepted, unknown-at, unexpected-at, end-at, emptied, logged, onward, finish, reads}
 use Rattle.meaning.specs.Plans.{freePlan}

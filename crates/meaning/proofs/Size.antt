@@ -8,11 +8,11 @@ use mathlib.Core.Logic.{_≢_}
 use Rattle.book.specs.Book.{Book, WellFormed, Proper, token-is}
 use Rattle.book.specs.declared.Node.{Node}
 use Rattle.book.specs.declared.Node.the-variants.{Fail, Token}
-use Rattle.rules.specs.Rules.{First, f-token, f-left, f-right, f-hold, f-skip, f-tagged, f-ref, c-first, c-follow}
-use Rattle.rules.specs.Rules.{either-left, either-right, then-left, then-right, tagged-left, ref-left}
-use Rattle.meaning.proofs.Facts.{nullable-first-snf}
+use Rattle.grammar.specs.Rules.{First, f-token, f-left, f-right, f-hold, f-skip, f-tagged, f-ref, c-first, c-follow}
+use Rattle.grammar.specs.Rules.{either-left, either-right, then-left, then-right, tagged-left, ref-left}
+use Rattle.grammar.proofs.Facts.{nullable-first-snf}
 use Rattle.meaning.proofs.Walk.{size}
-use Rattle.meaning.proofs.Clear.{Clear, clear-child, clear-here}
+use Rattle.grammar.proofs.Clear.{Clear, clear-child, clear-here}
 
 -- a number, with another in place of one
 swapped : (n v w : ℕ) → Dec (w ≡ n) → ℕ

@@ -12,7 +12,8 @@ use Rattle.plan.specs.Running.{Plan, Step, taken, refused, runaway, emptied, no
 use Rattle.plan.specs.Running.{Answer, accepted, deep-at, unknown-at, unexpected-at, end-at, runaway-at, logged, onward, finish, reads, reading}
 use Rattle.book.specs.Book.{Book}
 use Rattle.plan.specs.Cells.{Marks, Marked}
-use Rattle.meaning.specs.Meaning.{Passes, Means, told}
+use Rattle.grammar.specs.Passing.{Passes}
+use Rattle.meaning.specs.Meaning.{Means, told}
 use Rattle.meaning.specs.Plans.{freePlan, withFree, withSlots}
 use Rattle.meaning.proofs.Limits.{free-answers}
 use Rattle.meaning.proofs.Theorem.{reading-means, meaning}

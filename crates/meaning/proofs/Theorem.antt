@@ -7,13 +7,15 @@ use mathlib.Core.Logic.{_↔_}
 use lib.ListN.{length, getD, length-append}
 use lib.Seq.{take-at, getD-at, append-snoc}
 use Rattle.book.specs.Book.{Book}
-use Rattle.rules.specs.Rules.{r-start}
+use Rattle.grammar.specs.Rules.{r-start}
 use Rattle.plan.specs.Cells.{Marks, Marked}
 use Rattle.plan.specs.Running.{Answer, accepted, deep-at, unknown-at, unexpected-at, end-at, runaway-at, reading}
-use Rattle.meaning.specs.Meaning.{tree, Lawful, Begins, Passes, Accepts, Refuses, Ends, Means, means-accepted, means-unexpected, means-unknown, means-end, told}
+use Rattle.grammar.specs.Derivations.{Lawful, Begins}
+use Rattle.grammar.specs.Passing.{Passes}
+use Rattle.meaning.specs.Meaning.{tree, Accepts, Refuses, Ends, Means, means-accepted, means-unexpected, means-unknown, means-end, told}
 use Rattle.meaning.specs.Plans.{freePlan}
 use Rattle.meaning.proofs.Parts.{held-derives, derives-held}
-use Rattle.meaning.proofs.Clear.{passes-clear}
+use Rattle.grammar.proofs.Clear.{passes-clear}
 use Rattle.meaning.proofs.Orderly.{Orderly, orderly-end, orderly-part, held-nothing}
 use Rattle.meaning.proofs.Run.{Parted, Run, run-accepted, run-unexpected, run-unknown, run-end, run-is}
 use Rattle.meaning.proofs.Verdict.{means-unique, means-alike}

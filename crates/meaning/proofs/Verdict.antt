@@ -10,9 +10,11 @@ use lib.Seq.{take-take}
 use lib.Dec.{ltb}
 use borrow.Author.Tests.{lt-ltb, le-ltb}
 use Rattle.book.specs.Book.{Book}
-use Rattle.rules.specs.Rules.{r-start}
+use Rattle.grammar.specs.Rules.{r-start}
 use Rattle.plan.specs.Running.{Answer, accepted, deep-at, unknown-at, unexpected-at, end-at, runaway-at}
-use Rattle.meaning.specs.Meaning.{tree, Lawful, Begins, Passes, Refuses, Ends, Means, means-accepted, means-unexpected, means-unknown, means-end, told}
+use Rattle.grammar.specs.Derivations.{Lawful, Begins}
+use Rattle.grammar.specs.Passing.{Passes}
+use Rattle.meaning.specs.Meaning.{tree, Refuses, Ends, Means, means-accepted, means-unexpected, means-unknown, means-end, told}
 use Rattle.meaning.proofs.Unique.{derivation-unique}
 
 -- what a beginning of a lawful run begins with is one

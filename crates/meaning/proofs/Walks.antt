@@ -7,12 +7,12 @@ use mathlib.Core.Logic.{_≢_}
 use mathlib.Core.List.{List}
 use Rattle.words.proofs.Tests.{holds}
 use Rattle.book.specs.Book.{Book}
-use Rattle.rules.specs.Rules.{Reach, First}
+use Rattle.grammar.specs.Rules.{Reach, First}
 use Rattle.plan.specs.Cells.{Marks, Marked, cellOf}
 use Rattle.plan.specs.Running.{taken, walk}
-use Rattle.meaning.specs.Meaning.{Passes}
+use Rattle.grammar.specs.Passing.{Passes}
 use Rattle.meaning.specs.Plans.{freePlan}
-use Rattle.meaning.proofs.Clear.{passes-clear}
+use Rattle.grammar.proofs.Clear.{passes-clear}
 use Rattle.meaning.proofs.Machine.{walk-is, cell-other}
 use Rattle.meaning.proofs.Size.{size-below}
 use Rattle.meaning.proofs.Walk.{after, recorded, size}

@@ -1,25 +1,12 @@
--- What a book means: derivations by document 01's type table, their records, lawful runs, passed books, and what each answer of a
--- reading means.
+-- What a book means to a reading: the records of derivations, and what each answer means.
 use Prim.Native.Nat.{ℕ, suc, _<_, _≤_}
 use mathlib.Core.Path.{_≡_}
 use mathlib.Core.List.{List, [], _∷_, _++_}
 use lib.ListN.{length, take, getD}
-use Rattle.book.specs.Book.{Book, WellFormed}
+use Rattle.book.specs.Book.{Book}
 use Rattle.book.specs.declared.Node.{Node}
-use Rattle.book.specs.declared.Node.the-variants.{Empty, Token, Either, Then, Tagged, Ref}
-use Rattle.rules.specs.Rules.{Productive, Conflict, Reach}
+use Rattle.grammar.specs.Derivations.{Derives, d-empty, d-token, d-left, d-right, d-then, d-tagged, d-ref, Lawful, Begins}
 use Rattle.plan.specs.Running.{Answer, emptied, accepted, deep-at, unknown-at, unexpected-at, end-at, runaway-at}
-
--- what a node derives: fail nothing; empty the empty run; token one event of its kind; either what left or right derives; then left's
--- run followed by right's; tagged and ref what left derives
-pub data Derives (node : ℕ → Node) : Node → List ℕ → Type 0 where
-  d-empty : Derives node Empty []
-  d-token : {k : ℕ} → Derives node (Token k) (k ∷ [])
-  d-left : {l r : ℕ} {xs : List ℕ} → Derives node (node l) xs → Derives node (Either l r) xs
-  d-right : {l r : ℕ} {xs : List ℕ} → Derives node (node r) xs → Derives node (Either l r) xs
-  d-then : {l r : ℕ} {xs ys : List ℕ} → Derives node (node l) xs → Derives node (node r) ys → Derives node (Then l r) (xs ++ ys)
-  d-tagged : {l t : ℕ} {xs : List ℕ} → Derives node (node l) xs → Derives node (Tagged l t) xs
-  d-ref : {l : ℕ} {xs : List ℕ} → Derives node (node l) xs → Derives node (Ref l) xs
 
 -- the records of a part, by the run it takes: a single empty record if it takes no event, else its node's and then those of its parts
 unfoldable pub partRecords : ℕ → List ℕ → List ℕ → List ℕ
@@ -40,42 +27,6 @@ module _ {node : ℕ → Node} where
   -- the records of a derivation from a node of this number: top-down, left to right, a part that takes no event a single empty record
   unfoldable pub tree : {top : Node} {xs : List ℕ} → ℕ → Derives node top xs → List ℕ
   tree {xs = xs} n d = partRecords n xs (parts d)
-
--- a whole derivation with nothing collapsed: each node by its number, the kind of a token, which side an either took, and both parts of
--- a then
-pub data Full : Type 0 where
-  full-empty : ℕ → Full
-  full-token : ℕ → ℕ → Full
-  full-left : ℕ → Full → Full
-  full-right : ℕ → Full → Full
-  full-then : ℕ → Full → Full → Full
-  full-tagged : ℕ → Full → Full
-  full-ref : ℕ → Full → Full
-
--- the whole derivation that a derivation from a node of this number is
-unfoldable pub full : {node : ℕ → Node} {top : Node} {xs : List ℕ} → ℕ → Derives node top xs → Full
-full n d-empty = full-empty n
-full n (d-token {k}) = full-token n k
-full n (d-left {l} d) = full-left n (full l d)
-full n (d-right {r = r} d) = full-right n (full r d)
-full n (d-then {l} {r} d e) = full-then n (full l d) (full r e)
-full n (d-tagged {l} d) = full-tagged n (full l d)
-full n (d-ref {l} d) = full-ref n (full l d)
-
--- a run is lawful if the start derives it
-abbrev pub Lawful : Book → List ℕ → Type 0
-Lawful b xs = Derives (b .node) (b .node (b .start)) xs
-
--- a beginning of a lawful run
-pub record Begins (b : Book) (xs : List ℕ) : Type 0 where
-  pub rest : List ℕ
-  pub lawful : Lawful b (xs ++ rest)
-
--- a book passes: well formed, its start productive, and no reachable node has a conflict
-pub record Passes (b : Book) : Type 0 where
-  pub well-formed : WellFormed b
-  pub productive : Productive (b .node) (b .node (b .start))
-  pub no-conflict : (n : ℕ) → Reach (b .node) (b .start) n → Conflict (b .node) (b .node n) → ⊥
 
 -- a run is accepted with these records: they are the tree of a derivation of the run by the start
 pub record Accepts (b : Book) (xs records : List ℕ) : Type 0 where

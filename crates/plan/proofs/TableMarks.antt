@@ -12,7 +12,7 @@ use Rattle.kinds.specs.Kinds.{Has, has?}
 use Rattle.kinds.proofs.Laws.{has?-is}
 use Rattle.book.specs.declared.Node.{Node}
 use Rattle.book.specs.declared.Node.the-variants.{Fail}
-use Rattle.rules.specs.Rules.{First, Nullable}
+use Rattle.grammar.specs.Rules.{First, Nullable}
 use Rattle.plan.specs.Cells.{Marks, Marked}
 use Rattle.plan.specs.Table.{nullSet, firstSet, marksOf}
 

@@ -5,7 +5,7 @@ use mathlib.Core.Bool.{Bool, true, false, not, _&&_, cond}
 use mathlib.Core.Logic.{_↔_}
 use Rattle.book.specs.declared.Node.{Node}
 use Rattle.book.specs.declared.Node.the-variants.{Fail, Empty, Token, Either, Then, Tagged, Ref}
-use Rattle.rules.specs.Rules.{First, Nullable}
+use Rattle.grammar.specs.Rules.{First, Nullable}
 
 -- marks for every node: the kinds in its FIRST set, and whether it is nullable
 pub record Marks : Type 0 where

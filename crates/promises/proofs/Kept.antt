@@ -9,7 +9,7 @@ use Rattle.book.specs.Book.{Book}
 use Rattle.words.specs.Words.{zeros}
 use Rattle.book.specs.Form.{DONE, formOf, bookOf}
 use Rattle.plan.specs.Cells.{Marks, Marked, cellOf}
-use Rattle.rules.specs.Rules.{Reach}
+use Rattle.grammar.specs.Rules.{Reach}
 use Rattle.compiler.specs.declared.Compiled.{Compiled}
 use Rattle.compiler.specs.Compiles.{Compiles, sizeOf}
 use Rattle.compiler.proofs.Some.{compiles-some}
@@ -24,7 +24,8 @@ use Rattle.reader.proofs.Answers.{reads-unique, read-told, number-listed, tree-
 use Rattle.reader.proofs.Fold.{reading-steps}
 use Rattle.plan.specs.Form.{planFrom}
 use Rattle.plan.specs.Running.{Plan, taken, walk, reading}
-use Rattle.meaning.specs.Meaning.{Derives, Passes}
+use Rattle.grammar.specs.Derivations.{Derives}
+use Rattle.grammar.specs.Passing.{Passes}
 use Rattle.meaning.specs.Plans.{freePlan}
 use Rattle.meaning.proofs.Unique.{derivation-unique}
 use Rattle.meaning.proofs.Walks.{walks-take}

@@ -22,7 +22,7 @@ use Rattle.compiler.proofs.Promise.{Passed, passed, passed-size, plan-long}
 use Rattle.reader.specs.Reads.{Outcome, outcomeOf, runOf, readOf}
 use Rattle.reader.proofs.Answers.{read-told, records-counted}
 use Rattle.reader.proofs.Settles.{read-runs}
-use Rattle.meaning.specs.Meaning.{Passes}
+use Rattle.grammar.specs.Passing.{Passes}
 use Rattle.meaning.specs.Plans.{freePlan}
 use Rattle.meaning.proofs.Slots.{slots-free}
 use Rattle.meaning.proofs.Theorem.{reading-means}

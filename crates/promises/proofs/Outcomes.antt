@@ -13,7 +13,9 @@ use Rattle.plan.specs.Running.{Plan, Answer, accepted, deep-at, unknown-at, une
 use Rattle.reader.specs.Machine.{answered}
 use Rattle.reader.specs.Numbers.{DEEP, UNKNOWN, UNEXPECTED, END, RUNAWAY}
 use Rattle.reader.specs.Reads.{Outcome, outcome, acceptedOf, outcomeOf}
-use Rattle.meaning.specs.Meaning.{tree, Lawful, Passes, Accepts, Refuses, Ends, Means, means-accepted, means-unknown, means-unexpected, means-end, told}
+use Rattle.grammar.specs.Derivations.{Lawful}
+use Rattle.grammar.specs.Passing.{Passes}
+use Rattle.meaning.specs.Meaning.{tree, Accepts, Refuses, Ends, Means, means-accepted, means-unknown, means-unexpected, means-end, told}
 use Rattle.meaning.proofs.Verdict.{means-unique}
 use Rattle.promises.specs.Promises.{ReadsAsMeant}
 

@@ -16,11 +16,13 @@ use Rattle.plan.specs.Bytes.{planBytes}
 use Rattle.plan.specs.Form.{cellAt, planCount, planOf}
 use Rattle.plan.specs.Running.{accepted, reading}
 use Rattle.compiler.specs.declared.Compiled.{Compiled}
-use Rattle.compiler.specs.Compiles.{Compiles, Fruitful, Free, sizeOf}
+use Rattle.grammar.specs.Passing.{Fruitful, Free}
+use Rattle.compiler.specs.Compiles.{Compiles, sizeOf}
 use Rattle.reader.specs.Machine.{answered}
 use Rattle.reader.specs.Numbers.{UNKNOWN, UNEXPECTED, END, NO-ROOM}
 use Rattle.reader.specs.Reads.{Outcome, outcome, readOf}
-use Rattle.meaning.specs.Meaning.{Derives, tree, full, Lawful, Refuses, Ends}
+use Rattle.grammar.specs.Derivations.{Derives, full, Lawful}
+use Rattle.meaning.specs.Meaning.{tree, Refuses, Ends}
 
 -- Demand 1, compiling: the answer is one of 0 to 7, and a refusal leaves the whole plan buffer zero
 pub record CompileAnswers (room : ℕ) (a : Compiled) (plan : List ℕ) : Type 0 where

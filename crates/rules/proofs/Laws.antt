@@ -14,7 +14,7 @@ use Rattle.kinds.proofs.Laws.{has-dec, has?-is, beyond}
 use Rattle.book.specs.Book.{Proper, token-is}
 use Rattle.book.specs.declared.Node.{Node}
 use Rattle.book.specs.declared.Node.the-variants.{Fail, Token}
-use Rattle.rules.specs.Rules.{Productive, Nullable, First, Snf, Reach, f-token, f-left, f-right, f-hold, f-skip, f-tagged, f-ref, s-left, s-right, s-first-left, s-first-right, s-then-left, s-then-right, s-tagged, s-ref}
+use Rattle.grammar.specs.Rules.{Productive, Nullable, First, Snf, Reach, f-token, f-left, f-right, f-hold, f-skip, f-tagged, f-ref, s-left, s-right, s-first-left, s-first-right, s-then-left, s-then-right, s-tagged, s-ref}
 use Rattle.rules.specs.Facts.{Facts, firstMark, nullMark, Reached}
 use Rattle.rules.specs.Step.{leftFrom, rightFrom}
 use Rattle.rules.proofs.Reading.{left-below, right-below}

@@ -16,7 +16,7 @@ use Rattle.book.specs.Book.{Proper}
 use Rattle.book.specs.Decode.{nodeAt, nodes, GoodNodes}
 use Rattle.book.specs.declared.Node.{Node}
 use Rattle.book.specs.declared.Node.the-variants.{Fail, Empty, Token, Either, Then, Tagged, Ref}
-use Rattle.rules.specs.Rules.{Nullable, First, Snf, Conflict, c-nullable, c-first, c-follow, Reach}
+use Rattle.grammar.specs.Rules.{Nullable, First, Snf, Conflict, c-nullable, c-first, c-follow, Reach}
 use Rattle.rules.specs.Facts.{Facts, Marked, Reached}
 use Rattle.rules.specs.Conflicts.{LowestKind, Reported, both-nullable, in-both-first, in-snf-and-first, NO-CONFLICT, BOTH-NULLABLE, ConflictAt, Conflicting, LowestConflict}
 use Rattle.rules.specs.Step.{leftFrom, rightFrom, factsAt, EitherReport, reportedOf}

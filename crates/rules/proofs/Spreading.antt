@@ -12,7 +12,7 @@ use Rattle.book.specs.Book.{Proper}
 use Rattle.book.specs.Decode.{nodeAt, nodes, GoodNodes}
 use Rattle.book.specs.declared.Node.{Node}
 use Rattle.book.specs.declared.Node.the-variants.{Fail, Empty, Token, Either, Then, Tagged, Ref}
-use Rattle.rules.specs.Rules.{Child, either-left, either-right, then-left, then-right, tagged-left, ref-left, Reach, r-start, r-child}
+use Rattle.grammar.specs.Rules.{Child, either-left, either-right, then-left, then-right, tagged-left, ref-left, Reach, r-start, r-child}
 use Rattle.rules.specs.Facts.{Marked, Reached}
 use Rattle.rules.specs.Growth.{Sound, Blank, Joined, Grown, Turned}
 use Rattle.rules.specs.Step.{leftFrom, rightFrom, ReachAt, ChildClosed, Spread}

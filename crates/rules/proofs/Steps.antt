@@ -11,7 +11,7 @@ use Rattle.kinds.specs.Kinds.{Has}
 use Rattle.kinds.proofs.Laws.{none, has-single, has-join, has-shared}
 use Rattle.book.specs.declared.Node.{Node}
 use Rattle.book.specs.declared.Node.the-variants.{Fail, Empty, Token, Either, Then, Tagged, Ref}
-use Rattle.rules.specs.Rules.{p-empty, p-token, p-left, p-right, p-then, p-tagged, p-ref, n-empty, n-left, n-right, n-then, n-tagged, n-ref, f-token, f-left, f-right, f-hold, f-skip, f-tagged, f-ref, s-left, s-right, s-first-left, s-first-right, s-then-left, s-then-right, s-tagged, s-ref}
+use Rattle.grammar.specs.Rules.{p-empty, p-token, p-left, p-right, p-then, p-tagged, p-ref, n-empty, n-left, n-right, n-then, n-tagged, n-ref, f-token, f-left, f-right, f-hold, f-skip, f-tagged, f-ref, s-left, s-right, s-first-left, s-first-right, s-then-left, s-then-right, s-tagged, s-ref}
 use Rattle.rules.specs.declared.NodeFacts.{NodeFacts}
 use Rattle.rules.specs.Growth.{Sound, Joined, Grown}
 use Rattle.rules.specs.Step.{factsAt, ruledOf, factOf, Fact, FactAt, Given, Holds, PutAt}

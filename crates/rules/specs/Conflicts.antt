@@ -5,7 +5,7 @@ use mathlib.Core.Bool.{Bool, true, false}
 use mathlib.Core.Logic.{_≢_}
 use Rattle.book.specs.declared.Node.{Node}
 use Rattle.book.specs.declared.Node.the-variants.{Either, Then}
-use Rattle.rules.specs.Rules.{Nullable, First, Snf, Conflict}
+use Rattle.grammar.specs.Rules.{Nullable, First, Snf, Conflict}
 
 -- the lowest kind of which something holds
 pub record LowestKind (Of : ℕ → Type 0) (k : ℕ) : Type 0 where

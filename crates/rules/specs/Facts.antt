@@ -7,7 +7,7 @@ use lib.Dec.{ltb}
 use lib.ListN.{getD}
 use Rattle.kinds.specs.Kinds.{Has, has?}
 use Rattle.book.specs.declared.Node.{Node}
-use Rattle.rules.specs.Rules.{Productive, Nullable, First, Snf, Reach}
+use Rattle.grammar.specs.Rules.{Productive, Nullable, First, Snf, Reach}
 
 -- the table has four sets a node: productive and nullable, each as no kind or all kinds, FIRST and SNF
 pub record Facts (node : ℕ → Node) (count : ℕ) (table : List ℕ) : Type 0 where

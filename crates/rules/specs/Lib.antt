@@ -1,4 +1,3 @@
-pub mod Rules
 pub mod Facts
 pub mod Conflicts
 pub mod Growth

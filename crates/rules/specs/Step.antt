@@ -9,7 +9,7 @@ use lib.ListN.{getD}
 use Rattle.kinds.specs.Kinds.{Has, everyKind, onlyKind, joined, inBoth, lowestKind}
 use Rattle.book.specs.declared.Node.{Node}
 use Rattle.book.specs.declared.Node.the-variants.{Fail, Empty, Token, Either, Then, Tagged, Ref}
-use Rattle.rules.specs.Rules.{Productive, Nullable, First, Snf, Child, Reach}
+use Rattle.grammar.specs.Rules.{Productive, Nullable, First, Snf, Child, Reach}
 use Rattle.rules.specs.Conflicts.{NO-CONFLICT, BOTH-NULLABLE}
 use Rattle.rules.specs.Facts.{Marked}
 use Rattle.rules.specs.Growth.{Sound, Grown, Visited, Turned}

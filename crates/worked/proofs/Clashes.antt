@@ -12,7 +12,7 @@ use Rattle.book.specs.Book.{Book, leftOf, rightOf}
 use Rattle.book.specs.Decode.{firstBad}
 use Rattle.book.specs.declared.Node.{Node}
 use Rattle.book.specs.declared.Node.the-variants.{Fail, Empty, Token, Either, Then, Tagged, Ref}
-use Rattle.rules.specs.Rules.{First, Snf, Conflict, c-nullable, c-first, c-follow}
+use Rattle.grammar.specs.Rules.{First, Snf, Conflict, c-nullable, c-first, c-follow}
 use Rattle.rules.specs.Conflicts.{LowestKind, Reported, both-nullable, in-both-first, in-snf-and-first}
 use Rattle.compiler.proofs.Least.{or-left, or-right}
 use Rattle.worked.proofs.Lists.{never, first-passed, first-failed}

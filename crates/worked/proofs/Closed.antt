@@ -12,7 +12,7 @@ use Rattle.words.proofs.Tests.{joined}
 use Rattle.book.specs.Book.{Book, WellFormed}
 use Rattle.book.specs.declared.Node.{Node}
 use Rattle.book.specs.declared.Node.the-variants.{Fail}
-use Rattle.rules.specs.Rules.{Productive, Nullable, First, Snf, p-empty, p-token, p-left, p-right, p-then, p-tagged, p-ref, n-empty, n-left, n-right, n-then, n-tagged, n-ref, f-token, f-left, f-right, f-hold, f-skip, f-tagged, f-ref, s-left, s-right, s-first-left, s-first-right, s-then-left, s-then-right, s-tagged, s-ref}
+use Rattle.grammar.specs.Rules.{Productive, Nullable, First, Snf, p-empty, p-token, p-left, p-right, p-then, p-tagged, p-ref, n-empty, n-left, n-right, n-then, n-tagged, n-ref, f-token, f-left, f-right, f-hold, f-skip, f-tagged, f-ref, s-left, s-right, s-first-left, s-first-right, s-then-left, s-then-right, s-tagged, s-ref}
 use Rattle.rules.proofs.Laws.{first-below}
 use Rattle.compiler.proofs.Least.{or-left, or-right}
 use Rattle.worked.proofs.Lists.{never, filled-is}

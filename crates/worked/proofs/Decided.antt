@@ -9,7 +9,7 @@ use borrow.Author.Tests.{not-true, not-false}
 use lib.ListN.{getD}
 use Rattle.words.proofs.Tests.{both, joined, fails}
 use Rattle.book.specs.Book.{Book, WellFormed}
-use Rattle.rules.specs.Rules.{Conflict, Reach}
+use Rattle.grammar.specs.Rules.{Conflict, Reach}
 use Rattle.rules.specs.Conflicts.{Reported}
 use Rattle.plan.specs.Cells.{Marks, Marked}
 use Rattle.worked.proofs.Lists.{never, turned, first-passed, first-failed}

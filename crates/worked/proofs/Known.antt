@@ -10,7 +10,8 @@ use Rattle.words.proofs.Tests.{both}
 use Rattle.book.specs.Form.{DONE, formOf, bookOf}
 use Rattle.book.proofs.Decoded.{formed, well-formed}
 use Rattle.plan.specs.Bytes.{planBytes}
-use Rattle.compiler.specs.Compiles.{CONFLICT, answer, Fruitful, sizeOf, Compiles, conflict, done}
+use Rattle.grammar.specs.Passing.{Fruitful}
+use Rattle.compiler.specs.Compiles.{CONFLICT, answer, sizeOf, Compiles, conflict, done}
 use Rattle.worked.proofs.Turns.{factsAt, settled}
 use Rattle.worked.proofs.Closed.{FactsAre}
 use Rattle.worked.proofs.Reached.{ReachIs, reachSettled}

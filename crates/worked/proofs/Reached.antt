@@ -12,7 +12,7 @@ use Rattle.words.proofs.Tests.{both, joined}
 use Rattle.book.specs.Book.{Book, Proper, either-is, then-is, tagged-is, ref-is, WellFormed}
 use Rattle.book.specs.declared.Node.{Node}
 use Rattle.book.specs.declared.Node.the-variants.{Fail, Empty, Token, Either, Then, Tagged, Ref}
-use Rattle.rules.specs.Rules.{Child, Reach, either-left, either-right, then-left, then-right, tagged-left, ref-left, r-start, r-child}
+use Rattle.grammar.specs.Rules.{Child, Reach, either-left, either-right, then-left, then-right, tagged-left, ref-left, r-start, r-child}
 use Rattle.compiler.proofs.Least.{or-cases, or-left, or-right}
 use Rattle.worked.proofs.Lists.{never, filled, filled-is, mark-filled, turned, turned-keeps, sameList, same-list, same-bool, anyBelow, any-some, some-any}
 

@@ -3,8 +3,8 @@ use Prim.Native.Nat.{ℕ}
 use mathlib.Core.Path.{_≡_, refl}
 use Rattle.book.specs.Book.{Book}
 use Rattle.book.specs.declared.Node.{Node}
-use Rattle.rules.specs.Rules.{Conflict, Child, Reach, r-child}
-use Rattle.meaning.specs.Meaning.{Passes}
+use Rattle.grammar.specs.Rules.{Conflict, Child, Reach, r-child}
+use Rattle.grammar.specs.Passing.{Passes}
 
 -- a node stands under another: it is the same, or a child of one that does
 pub data Under (node : ℕ → Node) (top : Node) : Node → Type 0 where

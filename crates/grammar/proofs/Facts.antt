@@ -5,11 +5,11 @@ use mathlib.Core.List.{List, [], _∷_, _++_}
 use mathlib.Core.Logic.{_↔_}
 use Rattle.book.specs.declared.Node.{Node}
 use Rattle.book.specs.declared.Node.the-variants.{Then}
-use Rattle.rules.specs.Rules.{Productive, p-empty, p-token, p-left, p-right, p-then, p-tagged, p-ref}
-use Rattle.rules.specs.Rules.{Nullable, n-empty, n-left, n-right, n-then, n-tagged, n-ref}
-use Rattle.rules.specs.Rules.{First, f-token, f-left, f-right, f-hold, f-skip, f-tagged, f-ref}
-use Rattle.rules.specs.Rules.{Snf, s-left, s-right, s-first-left, s-first-right, s-then-left, s-then-right, s-tagged, s-ref}
-use Rattle.meaning.specs.Meaning.{Derives, d-empty, d-token, d-left, d-right, d-then, d-tagged, d-ref}
+use Rattle.grammar.specs.Rules.{Productive, p-empty, p-token, p-left, p-right, p-then, p-tagged, p-ref}
+use Rattle.grammar.specs.Rules.{Nullable, n-empty, n-left, n-right, n-then, n-tagged, n-ref}
+use Rattle.grammar.specs.Rules.{First, f-token, f-left, f-right, f-hold, f-skip, f-tagged, f-ref}
+use Rattle.grammar.specs.Rules.{Snf, s-left, s-right, s-first-left, s-first-right, s-then-left, s-then-right, s-tagged, s-ref}
+use Rattle.grammar.specs.Derivations.{Derives, d-empty, d-token, d-left, d-right, d-then, d-tagged, d-ref}
 
 -- how a run that a node derives begins: the node is nullable if it does not, else the first kind is in FIRST
 abbrev pub Opens : (ℕ → Node) → Node → List ℕ → Type 0
