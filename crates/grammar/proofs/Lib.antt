@@ -2,3 +2,7 @@
 pub mod Facts
 pub mod Clear
 pub mod Unique
+pub mod Least
+pub mod Bounds
+pub mod Reaching
+pub mod Marks

@@ -10,6 +10,7 @@ use borrow.Author.Tests.{eqb-true, eqb-false, not-true, not-false, lt-ltb, le-lt
 use lib.ListN.{length, getD, set, length-set, replicate, length-replicate}
 use lib.Seq.{getD-set-same, getD-set-other, set-getD}
 use lib.Bits.{or-add-and, and-le-r}
+use Rattle.words.proofs.Tests.{or-cases}
 use Rattle.kinds.specs.Kinds.{Has, joined}
 use Rattle.kinds.proofs.Laws.{has-join, none}
 use Rattle.rules.specs.Growth.{Sound, Blank, Joined, Grown, Visited, Turned, total, visitedAt}
@@ -32,10 +33,6 @@ total-bound (a ∷ sets) small = omega (arith, total-bound sets (λ i. small (su
 pub or-false : (a b : Bool) → (a || b) ≡ false → (a ≡ false) × (b ≡ false)
 or-false true b e = absurd (true≢false e)
 or-false false b e = (refl, e)
-
-pub or-true : (a b : Bool) → (a || b) ≡ true → (a ≡ true) ⊎ (b ≡ true)
-or-true true b e = inl refl
-or-true false b e = inr e
 
 -- ---- growth
 
@@ -76,7 +73,7 @@ grown-then {By} {first} {second} {third} {c} {d} p q = record {
   keeps = λ i k has. q .keeps i k (p .keeps i k has);
   adds = λ i k has. ⊎-elim (p .adds i k) inr (q .adds i k has);
   still = λ e. q .still (or-false c d e .1) ∙ p .still (or-false c d e .0);
-  grew = λ e. grew c d p q (or-true c d e);
+  grew = λ e. grew c d p q (or-cases c d e);
 }
   where
     least : (c : Bool) → Grown By first second c → total first ≤ total second

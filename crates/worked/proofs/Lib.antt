@@ -1,9 +1,3 @@
 pub mod Lists
-pub mod Turns
-pub mod Closed
-pub mod Reached
-pub mod Clashes
-pub mod Decided
-pub mod Known
 pub mod Readings
 pub mod Checked

@@ -4,19 +4,19 @@ use native.Mathlib.Omega.{arith}
 use native.Mathlib.Decide.{ℕ-discrete}
 use borrow.Author.Tests.{eqb-true, eq-eqb}
 use mathlib.Core.Path.{_≡_, refl}
-use mathlib.Core.Bool.{Bool, true, false, _||_, _&&_, false≢true}
+use mathlib.Core.Bool.{Bool, true, false, _||_, _&&_}
 use mathlib.Core.Logic.{⊎-elim}
 use lib.Dec.{eqb}
-use Rattle.words.proofs.Tests.{both, joined}
+use Rattle.words.proofs.Tests.{never, both, joined, or-cases, or-left, or-right}
 use Rattle.book.specs.declared.Node.{Node}
 use Rattle.book.specs.declared.Node.the-variants.{Fail, Empty, Token, Either, Then, Tagged, Ref}
 use Rattle.book.specs.Book.{Book, WellFormed}
 use Rattle.grammar.specs.Rules.{Child, either-left, either-right, then-left, then-right, tagged-left, ref-left, Reach, r-start, r-child}
-use Rattle.compiler.proofs.Bounds.{parent-below, child-below}
-use Rattle.compiler.proofs.Least.{Decided, decided, or-cases, or-left, or-right}
+use Rattle.grammar.proofs.Bounds.{parent-below, child-below}
+use Rattle.grammar.proofs.Least.{Decided, Ruled, decided}
 
 -- whether a number is the left or right of a node
-child? : Node → ℕ → Bool
+unfoldable pub child? : Node → ℕ → Bool
 child? Fail m = false
 child? Empty m = false
 child? (Token k) m = false
@@ -27,9 +27,9 @@ child? (Ref l) m = eqb l m
 
 child-sound : (x : Node) (m : ℕ) → child? x m ≡ true → Child x m
 unfolding child?
-child-sound Fail m e = absurd (false≢true e)
-child-sound Empty m e = absurd (false≢true e)
-child-sound (Token k) m e = absurd (false≢true e)
+child-sound Fail m e = never e
+child-sound Empty m e = never e
+child-sound (Token k) m e = never e
 child-sound (Either l r) m e =
     ⊎-elim (λ a. rw (eqb-true l m a) either-left) (λ b. rw (eqb-true r m b) either-right) (or-cases (eqb l m) (eqb r m) e)
 child-sound (Then l r) m e =
@@ -47,13 +47,13 @@ child-complete (tagged-left {l}) = eq-eqb l l refl
 child-complete (ref-left {l}) = eq-eqb l l refl
 
 -- whether a test holds of a number below a bound
-any : ℕ → (ℕ → Bool) → Bool
+unfoldable pub any : ℕ → (ℕ → Bool) → Bool
 any zero f = false
 any (suc n) f = f n || any n f
 
 any-some : (n : ℕ) (f : ℕ → Bool) → any n f ≡ true → (i : ℕ) × (f i ≡ true)
 unfolding any
-any-some zero f e = absurd (false≢true e)
+any-some zero f e = never e
 any-some (suc n) f e = ⊎-elim (λ here. (n, here)) (any-some n f) (or-cases (f n) (any n f) e)
 
 any-here : (n : ℕ) (f : ℕ → Bool) (i : ℕ) → i < n → f i ≡ true → any n f ≡ true
@@ -66,10 +66,10 @@ any-here (suc n) f i below e = at (ℕ-discrete i n) (λ inside. any-here n f i 
     at (no other) lower = or-right (f n) (any n f) (lower (omega arith))
 
 module _ (book : Book) (formed : WellFormed book) where
-  abbrev node : ℕ → Node
+  abbrev pub node : ℕ → Node
   node = book .node
 
-  reached? : (ℕ → Bool) → ℕ → Bool
+  unfoldable pub reached? : (ℕ → Bool) → ℕ → Bool
   reached? t m = eqb (book .start) m || any (book .count) (λ n. t n && child? (node n) m)
 
   reach-complete : (t : ℕ → Bool) → ((i : ℕ) → reached? t i ≡ true → t i ≡ true) → {m : ℕ} → Reach node (book .start) m → t m ≡ true
@@ -81,11 +81,10 @@ module _ (book : Book) (formed : WellFormed book) where
       (any-here (book .count) (λ i. t i && child? (node i) m) n (parent-below book formed n c)
       (joined (t n) (child? (node n) m) (reach-complete t closed d) (child-complete c))))
 
-  pub reach-decided : Decided (Reach node (book .start))
+  pub reach-ruled : Ruled (Reach node (book .start)) (book .count) reached?
   unfolding reached?
-  reach-decided =
-      decided {bound = book .count} {step = reached?}
-      (record {
+  reach-ruled =
+      record {
         sound =
             λ t h m e.
             ⊎-elim (λ same. rw (← eqb-true (book .start) m same) r-start)
@@ -102,4 +101,8 @@ module _ (book : Book) (formed : WellFormed book) where
             child-below book formed n (child-sound (node n) m (both (t n) (child? (node n) m) pair .1)))
             (or-cases (eqb (book .start) m) _ e);
         complete = λ t closed m d. reach-complete t closed d;
-      })
+      }
+
+  -- which nodes are reachable
+  unfoldable pub reach-decided : Decided (Reach node (book .start))
+  reach-decided = decided reach-ruled
