@@ -14,8 +14,7 @@ use Rattle.book.specs.Form.{DONE}
 use Rattle.plan.specs.Form.{planOf, planFrom, planJudged}
 use Rattle.plan.specs.Running.{Plan, Answer, accepted, deep-at, unknown-at, unexpected-at, end-at, runaway-at, takenCell, rowFirst, expected, reading}
 use Rattle.reader.specs.declared.Reading.{Reading}
-use Rattle.reader.specs.Machine.{answered}
-use Rattle.reader.specs.Numbers.{DEEP, NO-ROOM}
+use Rattle.reader.specs.Numbers.{DEEP, NO-ROOM, answered}
 use Rattle.reader.specs.Reads.{Outcome, outcome, bare, acceptedOf, outcomeOf, runOf, readOf}
 use Rattle.reader.proofs.Settles.{read-form, read-long, read-slotless, read-runs}
 use Rattle.meaning.specs.Plans.{withFree}

@@ -10,8 +10,7 @@ use Rattle.words.specs.Words.{zeros}
 use Rattle.book.specs.Book.{Book}
 use Rattle.book.specs.Form.{DONE}
 use Rattle.plan.specs.Running.{Plan, Answer, accepted, deep-at, unknown-at, unexpected-at, end-at, runaway-at}
-use Rattle.reader.specs.Machine.{answered}
-use Rattle.reader.specs.Numbers.{DEEP, UNKNOWN, UNEXPECTED, END, RUNAWAY}
+use Rattle.reader.specs.Numbers.{DEEP, UNKNOWN, UNEXPECTED, END, RUNAWAY, answered}
 use Rattle.reader.specs.Reads.{Outcome, outcome, acceptedOf, outcomeOf}
 use Rattle.grammar.specs.Derivations.{Lawful}
 use Rattle.grammar.specs.Passing.{Passes}

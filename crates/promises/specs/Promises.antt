@@ -18,8 +18,7 @@ use Rattle.plan.specs.Running.{accepted, reading}
 use Rattle.compiler.specs.declared.Compiled.{Compiled}
 use Rattle.grammar.specs.Passing.{Fruitful, Free}
 use Rattle.compiler.specs.Compiles.{Compiles, sizeOf}
-use Rattle.reader.specs.Machine.{answered}
-use Rattle.reader.specs.Numbers.{UNKNOWN, UNEXPECTED, END, NO-ROOM}
+use Rattle.reader.specs.Numbers.{UNKNOWN, UNEXPECTED, END, NO-ROOM, answered}
 use Rattle.reader.specs.Reads.{Outcome, outcome, readOf}
 use Rattle.grammar.specs.Derivations.{Derives, full, Lawful}
 use Rattle.meaning.specs.Meaning.{tree, Refuses, Ends}

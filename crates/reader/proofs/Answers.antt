@@ -16,8 +16,7 @@ use Rattle.book.specs.Decode.{firstBad}
 use Rattle.book.specs.declared.Judged.{Judged}
 use Rattle.plan.specs.Form.{PLAN-FORM, CELL, planOf, planCount, planKinds, planJudged, planGood, rowGood, cellsJudged}
 use Rattle.reader.specs.declared.Reading.{Reading}
-use Rattle.reader.specs.Numbers.{LONG, DEEP, UNKNOWN, UNEXPECTED, END, RUNAWAY, NO-ROOM}
-use Rattle.reader.specs.Machine.{answered}
+use Rattle.reader.specs.Numbers.{LONG, DEEP, UNKNOWN, UNEXPECTED, END, RUNAWAY, NO-ROOM, answered}
 use Rattle.reader.specs.Reads.{Outcome, Reads, bare, acceptedOf, outcomeOf, runOf, readOf}
 use Rattle.plan.proofs.Records.{records-few}
 

@@ -11,7 +11,8 @@ use lib.ListN.{length, getD, drop, drop-of-length-le}
 use lib.Seq.{drop-cons}
 use Rattle.book.specs.Form.{DONE}
 use Rattle.plan.specs.Running.{Plan, expected}
-use Rattle.reader.specs.Machine.{After, Ended, Held, stack, ended, answered, refusal, eventOf, onOf, finishOf, closeOf, readsOf}
+use Rattle.reader.specs.Machine.{After, Ended, Held, stack, ended, refusal, eventOf, onOf, finishOf, closeOf, readsOf}
+use Rattle.reader.specs.Numbers.{answered}
 use Rattle.reader.proofs.Simulation.{Bounded}
 use Rattle.reader.proofs.Runs.{Safe, event-safe}
 

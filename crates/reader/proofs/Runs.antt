@@ -11,8 +11,8 @@ use lib.ListN.{length, getD, set, length-append}
 use lib.Seq.{sets}
 use Rattle.book.specs.Form.{DONE}
 use Rattle.plan.specs.Running.{Plan, emptied, Step, taken, refused, deep, runaway, event, expected, Answer, accepted, deep-at, unknown-at, unexpected-at, end-at, runaway-at, logged, onward, finish, reads}
-use Rattle.reader.specs.Numbers.{DEEP, UNKNOWN, UNEXPECTED, END, RUNAWAY}
-use Rattle.reader.specs.Machine.{After, Held, Ended, stands, answered, refusal, ended, stack, takeOf, eventOf, onOf, finishOf, closeOf, readsOf}
+use Rattle.reader.specs.Numbers.{DEEP, UNKNOWN, UNEXPECTED, END, RUNAWAY, answered}
+use Rattle.reader.specs.Machine.{After, Held, Ended, stands, refusal, ended, stack, takeOf, eventOf, onOf, finishOf, closeOf, readsOf}
 use Rattle.reader.proofs.Slots.{stack-length, held-less}
 use Rattle.reader.proofs.Simulation.{Took, Stepped, as-taken, as-refused, as-deep, as-runaway, Bounded, take-same}
 use Rattle.plan.proofs.Records.{Within, taken-within, refused-within, deep-within, runaway-within, within-more, event-within}

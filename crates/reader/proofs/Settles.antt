@@ -16,8 +16,8 @@ use Rattle.plan.specs.Running.{Plan, Answer, accepted, reads, reading}
 use Rattle.plan.specs.Form.{planFrom, planOf, planCount, planKinds, planStart, planJudged}
 use Rattle.plan.proofs.Laws.{done}
 use Rattle.reader.specs.declared.Reading.{Reading}
-use Rattle.reader.specs.Numbers.{LONG, DEEP, NO-ROOM}
-use Rattle.reader.specs.Machine.{Ended, Held, answered, stack, readsOf}
+use Rattle.reader.specs.Numbers.{LONG, DEEP, NO-ROOM, answered}
+use Rattle.reader.specs.Machine.{Ended, Held, stack, readsOf}
 use Rattle.reader.specs.Reads.{Outcome, outcome, bare, acceptedOf, outcomeOf, runOf, readOf}
 use Rattle.reader.specs.Settled.{settledOf}
 use Rattle.reader.proofs.Runs.{Ends, as-accepted, as-deep-at, as-unknown-at, as-unexpected-at, as-end-at, as-runaway-at, reads-same}

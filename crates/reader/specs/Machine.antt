@@ -10,7 +10,7 @@ use Rattle.book.specs.Form.{DONE}
 use Rattle.plan.specs.Running.{Plan, emptied, expected, rowFirst}
 use Rattle.reader.specs.declared.Spot.{Spot}
 use Rattle.reader.specs.declared.Reading.{Reading}
-use Rattle.reader.specs.Numbers.{DEEP, UNKNOWN, UNEXPECTED, END, RUNAWAY}
+use Rattle.reader.specs.Numbers.{DEEP, UNKNOWN, UNEXPECTED, END, RUNAWAY, answered}
 
 -- how the machine stands, with its slots and its tree
 pub record After : Type 0 where
@@ -83,11 +83,6 @@ module _ (p : Plan) (k : ℕ) where
   unfoldable pub eventOf : ℕ → ℕ → List ℕ → List ℕ → After
   eventOf count written held tree =
       cond (ltb k (p .kinds)) (takeOf count written held tree) (stands UNKNOWN count written held tree)
-
--- a reading's answer
-abbrev pub answered : ℕ → ℕ → ℕ → ℕ → Reading
-answered number place records expected =
-    record { number = number; place = place; records = records; expected = expected }
 
 -- the kinds that a refusal tells: those expected, but for DEEP and RUNAWAY none
 abbrev pub told : ℕ → ℕ → ℕ

@@ -10,8 +10,7 @@ use Rattle.book.specs.Form.{DONE}
 use Rattle.plan.specs.Running.{Plan, Answer, accepted, deep-at, unknown-at, unexpected-at, end-at, runaway-at, expected, reading}
 use Rattle.plan.specs.Form.{planOf, planJudged}
 use Rattle.reader.specs.declared.Reading.{Reading}
-use Rattle.reader.specs.Numbers.{LONG, DEEP, UNKNOWN, UNEXPECTED, END, RUNAWAY, NO-ROOM}
-use Rattle.reader.specs.Machine.{answered}
+use Rattle.reader.specs.Numbers.{LONG, DEEP, UNKNOWN, UNEXPECTED, END, RUNAWAY, NO-ROOM, answered}
 
 -- a reading's answer, and the tree buffer after it
 pub record Outcome : Type 0 where

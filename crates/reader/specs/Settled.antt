@@ -7,8 +7,7 @@ use lib.ListN.{length, take}
 use Rattle.words.specs.Words.{zeros}
 use Rattle.book.specs.Form.{DONE}
 use Rattle.reader.specs.declared.Reading.{Reading}
-use Rattle.reader.specs.Numbers.{NO-ROOM}
-use Rattle.reader.specs.Machine.{answered}
+use Rattle.reader.specs.Numbers.{NO-ROOM, answered}
 use Rattle.reader.specs.Reads.{Outcome, outcome, bare}
 
 -- the answer settled, by the records of a run that was accepted: the tree's rest cleared, or all of it

@@ -12,8 +12,7 @@ use Rattle.plan.specs.Form.{rowsAt}
 use Rattle.plan.specs.Running.{emptied}
 use Rattle.compiler.specs.Compiles.{CONFLICT, answer, Compiles}
 use Rattle.reader.specs.declared.Reading.{Reading}
-use Rattle.reader.specs.Numbers.{DEEP, UNKNOWN, UNEXPECTED, END, NO-ROOM}
-use Rattle.reader.specs.Machine.{answered}
+use Rattle.reader.specs.Numbers.{DEEP, UNKNOWN, UNEXPECTED, END, NO-ROOM, answered}
 use Rattle.reader.specs.Reads.{outcome, readOf}
 
 -- a book as document 01 writes it: kinds, start and nodes

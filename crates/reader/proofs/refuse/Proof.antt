@@ -2,7 +2,7 @@
 use borrow.Author.Needs.{needs}
 use mathlib.Core.Path.{ap}
 use Prim.Native.Nat.{ℕ}
-use Rattle.reader.specs.Machine.{answered}
+use Rattle.reader.specs.Numbers.{answered}
 use Rattle.reader.proofs.refuse.Statement.{statement}
 use Rattle.reader.proofs.refuse.Tie as tie
 

@@ -3,7 +3,7 @@ use borrow.Author.Needs.{needs}
 use mathlib.Core.Path.{ap}
 use mathlib.Core.List.{List}
 use Prim.Native.Nat.{ℕ}
-use Rattle.reader.specs.Machine.{answered}
+use Rattle.reader.specs.Numbers.{answered}
 use Rattle.reader.specs.Reads.{outcome}
 use Rattle.reader.proofs.refuse_all.Statement.{statement}
 use Rattle.reader.proofs.refuse_all.Tie as tie

@@ -4,7 +4,7 @@ use mathlib.Core.Path.{_≡_, sym, ap, _∙_}
 use mathlib.Core.List.{List, _++_}
 use Prim.Native.Nat.{ℕ}
 use lib.ListN.{take}
-use Rattle.reader.specs.Machine.{answered}
+use Rattle.reader.specs.Numbers.{answered}
 use Rattle.reader.specs.Reads.{outcome}
 use Rattle.reader.proofs.Settles.{rest-cleared, settled-refused, settled-full, settled-fits}
 use Rattle.reader.proofs.settle.Statement.{statement}
