@@ -9,11 +9,10 @@ use lib.Dec.{ltb, leb, eqb}
 use lib.ListN.{length}
 use Rattle.words.specs.Words.{u16At}
 use Rattle.words.proofs.Tests.{both, holds, fails}
-use Rattle.book.specs.Book.{Book, Proper, fail-is, empty-is, token-is, either-is, then-is, tagged-is, ref-is, WellFormed}
+use Rattle.book.specs.Book.{Proper, fail-is, empty-is, token-is, either-is, then-is, tagged-is, ref-is, WellFormed}
 use Rattle.book.specs.Decode.{nodeOf, fieldsGood, nodeAt, nodes, nodeGood, GoodNodes, typeAt, leftAt, rightAt}
 use Rattle.book.specs.Form.{judged, DONE, NODE, settingsAt, nodesAt, countOf, lengthGood, contentsGood, settingsGood, formOf, bookOf}
 use Rattle.book.specs.declared.Judged.{Judged}
-use Rattle.book.specs.declared.Node.{Node}
 use Rattle.book.specs.declared.Node.the-variants.{Fail}
 use Rattle.book.proofs.FirstBad.{first-none}
 use Rattle.book.proofs.Laws.{Sized, sized, bad-node, form-length, form-contents, form-settings, form-nodes}

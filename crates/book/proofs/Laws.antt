@@ -1,15 +1,16 @@
 -- Laws of the form of a book: what a good length says, and the answer by each test.
 use mathlib.Core.Path.{_≡_}
-use mathlib.Core.Bool.{true, false}
+use mathlib.Core.Bool.{Bool, true, false, cond}
 use mathlib.Core.List.{List}
 use Prim.Native.Nat.{ℕ, _+_, _*_, _%_, _≤_, _<_}
 use native.Mathlib.Omega.{arith}
 use borrow.Author.Tests.{leb-true, eqb-true}
+use lib.Dec.{ltb}
 use lib.ListN.{length}
 use Rattle.words.specs.Words.{u16At}
 use Rattle.words.proofs.Tests.{both}
 use Rattle.book.specs.Decode.{nodeGood, firstBad}
-use Rattle.book.specs.Form.{judged, LENGTH, CONTENTS, SETTINGS, settingsAt, nodesAt, countOf, lengthGood, contentsGood, settingsGood, nodesForm, formOf}
+use Rattle.book.specs.Form.{judged, DONE, LENGTH, CONTENTS, SETTINGS, NODE, settingsAt, nodesAt, countOf, lengthGood, contentsGood, settingsGood, nodesForm, formOf}
 
 -- a length that is 18 + 6N, for the N that it gives
 pub record Sized (size : ℕ) : Type 0 where
@@ -51,3 +52,22 @@ module _ (bytes : List ℕ) where
           → formOf bytes ≡ nodesForm (countOf (length bytes)) (bad-node bytes)
       unfolding formOf
       form-nodes good = rw (length-good, contents-good, good)
+
+-- whatever the tests say, the number is one of 0 to 4
+tests-listed : (long contents settings bad : Bool) (place : ℕ)
+    → cond long (cond contents (cond settings (cond bad (judged NODE place) (judged DONE 0)) (judged SETTINGS 0)) (judged CONTENTS 0))
+    (judged LENGTH 0) .number
+    ≤ NODE
+tests-listed false contents settings bad place = omega arith
+tests-listed true false settings bad place = omega arith
+tests-listed true true false bad place = omega arith
+tests-listed true true true false place = omega arith
+tests-listed true true true true place = omega arith
+
+-- the form's number is on the list
+pub form-listed : (bytes : List ℕ) → formOf bytes .number ≤ NODE
+unfolding formOf
+form-listed bytes =
+    let count = countOf (length bytes) in
+    tests-listed (lengthGood (length bytes)) (contentsGood bytes) (settingsGood bytes settingsAt count) (ltb (bad-node bytes) count)
+    (bad-node bytes)

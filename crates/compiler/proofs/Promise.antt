@@ -4,15 +4,14 @@ use Prim.Native.Nat.{ℕ, _+_, _-_, _≤_, _<_}
 use native.Mathlib.Omega.{arith}
 use native.Mathlib.Nat.{add-mul, mul-le-mul-right}
 use native.Mathlib.Numerals.{add-one}
-use mathlib.Core.Bool.{Bool, true, false, cond}
-use lib.Dec.{ltb}
+use mathlib.Core.Bool.{cond}
 use lib.ListN.{length, getD, length-append, length-replicate, List·getD-append}
 use mathlib.Core.Path.{_≡_, refl, _∙_, ap}
 use mathlib.Core.Logic.{_↔_, _≢_}
 use mathlib.Core.List.{List, _++_}
 use Rattle.words.specs.Words.{zeros}
-use Rattle.book.specs.Form.{DONE, LENGTH, CONTENTS, SETTINGS, NODE, settingsAt, countOf, judged, lengthGood, contentsGood, settingsGood, formOf, bookOf}
-use Rattle.book.proofs.Laws.{bad-node}
+use Rattle.book.specs.Form.{DONE, formOf, bookOf}
+use Rattle.book.proofs.Laws.{form-listed}
 use Rattle.book.proofs.Decoded.{Formed, formed}
 use Rattle.plan.specs.Cells.{Marks, Marked, cellOf}
 use Rattle.plan.specs.Form.{rowAt, planSize, cellAt}
@@ -82,24 +81,6 @@ books-pass bytes room form fits = (
   (λ (a, p, c, good). (passed c good .fruitful, passed c good .free)),
   (λ h. let (a, p, c) = compiles-some bytes room in (a, p, c, free-passes c form fits h)),
 )
-
--- whatever the tests of a book's form say, the number is at most 4
-tests-listed : (long contents settings bad : Bool) (place : ℕ)
-    → cond long (cond contents (cond settings (cond bad (judged NODE place) (judged DONE 0)) (judged SETTINGS 0)) (judged CONTENTS 0))
-    (judged LENGTH 0) .number
-    ≤ NODE
-tests-listed false contents settings bad place = omega arith
-tests-listed true false settings bad place = omega arith
-tests-listed true true false bad place = omega arith
-tests-listed true true true false place = omega arith
-tests-listed true true true true place = omega arith
-
-form-listed : (bytes : List ℕ) → formOf bytes .number ≤ NODE
-unfolding formOf
-form-listed bytes =
-    let count = countOf (length bytes) in
-    tests-listed (lengthGood (length bytes)) (contentsGood bytes) (settingsGood bytes settingsAt count) (ltb (bad-node bytes) count)
-    (bad-node bytes)
 
 -- every answer's number is on the list: 0 to 7
 pub answer-listed : {bytes : List ℕ} {room : ℕ} {a : Compiled} {p : List ℕ} → Compiles bytes room a p → a .number ≤ PLAN-ROOM

@@ -2,7 +2,7 @@
 -- take all facts of their left. `node` looks a book's nodes up by number.
 use Prim.Native.Nat.{ℕ}
 use Rattle.book.specs.declared.Node.{Node}
-use Rattle.book.specs.declared.Node.the-variants.{Fail, Empty, Token, Either, Then, Tagged, Ref}
+use Rattle.book.specs.declared.Node.the-variants.{Empty, Token, Either, Then, Tagged, Ref}
 
 -- productive: empty; token; either if one side is; then if both are
 pub data Productive (node : ℕ → Node) : Node → Type 0 where

@@ -10,9 +10,7 @@ use lib.Dec.{ltb}
 use lib.ListN.{length, take, length-take}
 use lib.Seq.{take-all}
 use borrow.Author.Tests.{lt-ltb, le-ltb, ltb-false}
-use Rattle.book.specs.declared.Judged.{Judged}
-use Rattle.book.specs.Form.{DONE, LENGTH, CONTENTS, SETTINGS, NODE, judged, settingsAt, countOf, lengthGood, contentsGood, settingsGood, formOf, bookOf}
-use Rattle.book.proofs.Laws.{bad-node}
+use Rattle.book.specs.Form.{DONE, bookOf}
 use Rattle.book.proofs.Decoded.{formed, well-formed}
 use Rattle.plan.proofs.Laws.{size-small}
 use Rattle.compiler.specs.declared.Compiled.{Compiled}
@@ -83,29 +81,9 @@ lists-some input = by-shape (shapeOf input) refl
         let made = compiles-some (bookIn input) planRoom in
         by-answer (made .0) (made .1) e (made .2) (ℕ-discrete (made .0 .number) DONE)
 
--- a form that is judged by a number up to 4
-record Small (form : Judged) : Type 0 where
-  small : form .number ≤ 4
-
-small-cond : (test : Bool) {a b : Judged} → Small a → Small b → Small (cond test a b)
-small-cond true p q = p
-small-cond false p q = q
-
-form-small : (bytes : List ℕ) → Small (formOf bytes)
-unfolding formOf
-form-small bytes =
-    let refused : (number : ℕ) (place : ℕ) → number ≤ 4 → Small (judged number place) = λ number place h. record { small = h } in
-    small-cond (lengthGood (length bytes))
-    (small-cond (contentsGood bytes)
-    (small-cond (settingsGood bytes settingsAt (countOf (length bytes)))
-    (small-cond (ltb (bad-node bytes) (countOf (length bytes))) (refused NODE (bad-node bytes) (omega arith)) (refused DONE 0 (omega arith)))
-    (refused SETTINGS 0 (omega arith)))
-    (refused CONTENTS 0 (omega arith)))
-    (refused LENGTH 0 (omega arith))
-
 -- PLAN ROOM never shows: the plan's buffer holds the largest plan
 pub plan-fits : {bytes : List ℕ} {answer : Compiled} {plan : List ℕ} → Compiles bytes planRoom answer plan → answer .number ≢ PLAN-ROOM
-plan-fits {bytes} (malformed bad) = omega (arith, form-small bytes .small)
+plan-fits {bytes} (malformed bad) = omega (arith, form-listed bytes)
 plan-fits (barren _ _) = omega arith
 plan-fits (conflict _ _ _ _ _) = omega arith
 plan-fits {bytes} (no-room good _ _ short) =

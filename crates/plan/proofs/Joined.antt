@@ -1,12 +1,12 @@
 -- Tests of so many numbers joined one after the other, and what they say of the first bad number.
 use mathlib.Core.Path.{_≡_, refl, sym, _∙_}
 use mathlib.Core.Bool.{Bool, true, false, _&&_}
-use Prim.Native.Nat.{ℕ, zero, suc, _+_, _≤_, _<_}
+use Prim.Native.Nat.{ℕ, _+_, _<_}
 use native.Mathlib.Decide.{ℕ-discrete}
 use native.Mathlib.Omega.{arith}
 use borrow.Author.Tests.{lt-ltb, ltb-true}
 use lib.Dec.{ltb}
-use Rattle.words.proofs.Tests.{both, fails}
+use Rattle.words.proofs.Tests.{fails}
 use Rattle.book.specs.Decode.{firstBad}
 use Rattle.book.proofs.FirstBad.{first-none}
 use Rattle.plan.proofs.Laws.{first-all}

@@ -3,22 +3,21 @@ use mathlib.Core.Path.{_≡_, refl, sym, ap, _∙_}
 use mathlib.Core.Bool.{Bool, true, false, _&&_, _||_}
 use mathlib.Core.Logic.{_⊎_, inl, inr, ⊎-elim}
 use mathlib.Core.List.{List}
-use Prim.Native.Nat.{ℕ, zero, suc, _+_, _*_, _≤_, _<_}
+use Prim.Native.Nat.{ℕ, zero, suc, _+_, _≤_, _<_}
 use native.Mathlib.Nat.{zero-add, add-zero, le-of-eq, mul-le-mul}
 use native.Mathlib.Omega.{arith}
 use borrow.Author.Tests.{ltb-true, ltb-false, leb-true, eqb-true, ne-eqb, lt-ltb, le-ltb}
 use lib.Dec.{ltb, leb, eqb}
 use lib.ListN.{length, getD}
-use Rattle.words.specs.Words.{u16At}
 use Rattle.words.proofs.Tests.{both, holds, fails}
-use Rattle.book.specs.Decode.{nodeAt, nodes, nodeGood, GoodNodes, firstBad}
+use Rattle.book.specs.Decode.{nodeAt, nodes, GoodNodes, firstBad}
 use Rattle.book.specs.Form.{judged, DONE, settingsGood}
 use Rattle.book.specs.declared.Judged.{Judged}
 use Rattle.book.specs.declared.Node.{Node}
 use Rattle.book.proofs.FirstBad.{first-none}
 use Rattle.book.proofs.Decoded.{good-nodes, nodes-below}
-use Rattle.plan.specs.Form.{PLAN-FORM, CELL, planSettingsAt, planNodesAt, rowAt, planSize, planCount, planKinds, planStart, cellAt}
-use Rattle.plan.specs.Form.{sizeGood, planContentsGood, planNodesGood, planGood, oneCell, otherCell, columnGood, badColumn, badIn, rowGood, cellsForm, cellsJudged, planJudged}
+use Rattle.plan.specs.Form.{PLAN-FORM, planSettingsAt, planNodesAt, rowAt, planSize, planCount, planKinds, planStart, cellAt}
+use Rattle.plan.specs.Form.{sizeGood, planContentsGood, planGood, oneCell, otherCell, columnGood, badColumn, badIn, rowGood, cellsForm, cellsJudged, planJudged}
 
 -- a search where all is good finds none
 pub first-all : (good : ℕ → Bool) (count : ℕ) → ((n : ℕ) → n < count → good n ≡ true) → firstBad good count 0 ≡ count

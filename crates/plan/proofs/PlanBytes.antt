@@ -1,20 +1,20 @@
 -- What stands in the bytes of a book's plan.
-use mathlib.Core.Path.{_≡_, refl, sym, ap, ap₂, _∙_}
-use mathlib.Core.Bool.{Bool, true, false, cond}
-use mathlib.Core.List.{List, [], _∷_, _++_}
+use mathlib.Core.Path.{_≡_, refl, ap, ap₂, _∙_}
+use mathlib.Core.Bool.{true, cond}
+use mathlib.Core.List.{List}
 use Prim.Native.Nat.{ℕ, _+_, _*_, _-_, _/_, _%_, _≤_, _<_}
 use native.Mathlib.Nat.{zero-add}
 use native.Mathlib.Omega.{arith}
-use borrow.Author.Tests.{eq-eqb, le-leb, lt-ltb}
+use borrow.Author.Tests.{eq-eqb}
 use lib.ListN.{length, getD, drop, length-append, length-drop, List·getD-append}
-use lib.Seq.{getD-append-add, getD-drop}
+use lib.Seq.{getD-drop}
 use Rattle.words.specs.Words.{u16At}
 use Rattle.book.specs.Book.{Book}
-use Rattle.book.specs.Decode.{nodeAt, nodeGood, nodes, typeAt, leftAt, rightAt}
+use Rattle.book.specs.Decode.{nodeAt, nodeGood, typeAt, leftAt, rightAt}
 use Rattle.book.specs.Form.{settingsAt, nodesAt, countOf, bookOf}
-use Rattle.book.proofs.Decoded.{Formed, nodes-below}
+use Rattle.book.proofs.Decoded.{Formed}
 use Rattle.plan.specs.Cells.{Marks, cellOf}
-use Rattle.plan.specs.Form.{planSettingsAt, planNodesAt, rowsAt, rowAt, planSize, planCount, planKinds, planStart, cellAt, planContentsGood}
+use Rattle.plan.specs.Form.{planNodesAt, rowsAt, rowAt, planSize, planCount, planKinds, planStart, cellAt, planContentsGood}
 use Rattle.plan.specs.Bytes.{wordBytes, valuesFrom, planContents, rowOf, rowsOf, planBytes}
 use Rattle.plan.proofs.Laws.{size-small}
 use Rattle.plan.proofs.Listed.{getD-second, length-values, getD-values, length-lists, getD-lists}

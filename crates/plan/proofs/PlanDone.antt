@@ -2,9 +2,9 @@
 use mathlib.Core.Path.{_≡_, refl, sym, ap, _∙_}
 use mathlib.Core.Bool.{Bool, true, false, not, _&&_, _||_, cond}
 use mathlib.Core.List.{List}
-use Prim.Native.Nat.{ℕ, _+_, _≤_, _<_}
+use Prim.Native.Nat.{ℕ, _+_, _<_}
 use native.Mathlib.Decide.{decLt}
-use native.Mathlib.Nat.{le-of-eq, lt-of-lt-of-le}
+use native.Mathlib.Nat.{le-of-eq}
 use native.Mathlib.Omega.{arith}
 use borrow.Author.Tests.{eq-eqb, le-leb, lt-ltb}
 use lib.Dec.{leb, eqb}
@@ -12,15 +12,15 @@ use lib.ListN.{length}
 use Rattle.words.specs.Words.{u16At}
 use Rattle.words.proofs.Tests.{joined}
 use Rattle.book.specs.Book.{leftOf, rightOf}
-use Rattle.book.specs.Decode.{nodeAt, nodes, nodeGood}
-use Rattle.book.specs.Form.{judged, DONE, settingsAt, nodesAt, countOf, settingsGood, formOf, bookOf}
+use Rattle.book.specs.Decode.{nodeAt, nodes}
+use Rattle.book.specs.Form.{judged, DONE, settingsAt, nodesAt, countOf, settingsGood, bookOf}
 use Rattle.book.specs.declared.Node.{Node}
 use Rattle.book.specs.declared.Node.the-variants.{Fail, Empty, Token, Either, Then, Tagged, Ref}
 use Rattle.book.proofs.FirstBad.{first-none}
-use Rattle.book.proofs.Decoded.{Formed, formed, nodes-below}
+use Rattle.book.proofs.Decoded.{Formed, nodes-below}
 use Rattle.plan.specs.Cells.{Marks, cellOf}
-use Rattle.plan.specs.Form.{planNodesAt, planSettingsAt, rowAt, planCount, planKinds, planStart, planOf, planFrom, cellAt, oneCell, otherCell}
-use Rattle.plan.specs.Form.{columnGood, sizeGood, planContentsGood, planNodesGood, planGood, cellsJudged, planJudged}
+use Rattle.plan.specs.Form.{planNodesAt, planSettingsAt, planCount, planKinds, planStart, planOf, planFrom, cellAt, oneCell, otherCell}
+use Rattle.plan.specs.Form.{sizeGood, planNodesGood, planGood, planJudged}
 use Rattle.plan.specs.Running.{reading}
 use Rattle.plan.specs.Bytes.{planBytes, planFor}
 use Rattle.plan.proofs.Agrees.{Agree, reading-agrees}

@@ -1,14 +1,14 @@
 -- The row by sets of kinds is the row of the table's marks.
-use mathlib.Core.Path.{_≡_, refl, sym, ap, ap₂, fun-ext, _∙_}
+use mathlib.Core.Path.{_≡_, refl, ap₂, fun-ext}
 use mathlib.Core.Bool.{Bool, true, false, not, _&&_, cond}
 use mathlib.Core.List.{List, [], _∷_, _++_}
-use Prim.Native.Nat.{ℕ, _+_, _*_, _≤_, _<_}
+use Prim.Native.Nat.{ℕ, _+_, _<_}
 use borrow.Author.Tests.{lt-ltb}
 use Rattle.kinds.specs.Kinds.{has?}
 use Rattle.book.specs.Book.{Book, leftOf}
 use Rattle.book.specs.declared.Node.{Node}
 use Rattle.book.specs.declared.Node.the-variants.{Fail, Empty, Token, Either, Then, Tagged, Ref}
-use Rattle.plan.specs.Cells.{Marks, cellOf}
+use Rattle.plan.specs.Cells.{cellOf}
 use Rattle.plan.specs.Form.{oneCell}
 use Rattle.plan.specs.Bytes.{valuesFrom, rowOf}
 use Rattle.plan.specs.Table.{nullSet, firstSet, marksOf, farCell, cellBy, rowBy}

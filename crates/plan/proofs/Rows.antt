@@ -1,5 +1,5 @@
 -- The rows of a plan: where they begin, and how the search for a bad cell goes from row to row.
-use mathlib.Core.Path.{_≡_, refl, sym, ap, _∙_}
+use mathlib.Core.Path.{_≡_, sym, ap, _∙_}
 use mathlib.Core.Bool.{true, false}
 use mathlib.Core.List.{List}
 use Prim.Native.Nat.{ℕ, _+_, _*_, _-_, _≤_, _<_}
@@ -8,10 +8,10 @@ use native.Mathlib.Numerals.{add-one}
 use native.Mathlib.Omega.{arith}
 use borrow.Author.Tests.{lt-ltb, le-ltb}
 use Rattle.book.specs.Form.{judged, DONE}
-use Rattle.book.specs.Decode.{nodeAt, firstBad}
+use Rattle.book.specs.Decode.{nodeAt}
 use Rattle.book.specs.declared.Node.{Node}
 use Rattle.book.proofs.FirstBad.{Searched, searched-none, searched-more, searched-bad, searched-all}
-use Rattle.plan.specs.Form.{rowsAt, rowAt, planSize, planNodesAt, oneCell, otherCell, badColumn, badIn, rowGood, cellsForm, cellsJudged, CELL}
+use Rattle.plan.specs.Form.{rowsAt, rowAt, planSize, planNodesAt, oneCell, otherCell, badColumn, badIn, rowGood, cellsJudged, CELL}
 
 module _ (count kinds : ℕ) where
   -- the first row begins where the rows do

@@ -1,8 +1,8 @@
 -- Storing into zeros: what stays clear behind a run of stores, and a loop that stores a row's cells only for the kinds of a set.
 use mathlib.Core.Path.{_≡_, refl, sym, ap, _∙_}
 use mathlib.Core.Logic.{_≢_}
-use mathlib.Core.Bool.{Bool, true, false, cond}
-use mathlib.Core.List.{List, [], _∷_, _++_}
+use mathlib.Core.Bool.{cond}
+use mathlib.Core.List.{List, [], _∷_}
 use Prim.Native.Nat.{ℕ, zero, suc, _+_, _-_, _^_, _≤_, _<_}
 use native.Mathlib.Nat.{add-zero, zero-add}
 use native.Mathlib.Decide.{decLt, ℕ-discrete}
@@ -10,7 +10,7 @@ use native.Mathlib.Omega.{arith}
 use lib.ListN.{length, getD, set, length-set}
 use lib.Seq.{sets, length-sets, getD-set-same, getD-set-other, ext-getD}
 use Rattle.kinds.specs.Kinds.{Has, has?, withoutKind, lowestKind}
-use Rattle.kinds.proofs.Laws.{has?-is, has-dec, has-without, without-less, lowest-is}
+use Rattle.kinds.proofs.Laws.{has?-is, has-without, without-less, lowest-is}
 use Rattle.words.specs.Words.{zeros}
 use Rattle.words.proofs.Tests.{fails}
 use Rattle.rules.proofs.Growing.{blank-zeros}

@@ -1,6 +1,6 @@
 -- Marks read off a table are the facts that the rules give, where the table's sets are.
-use mathlib.Core.Path.{_≡_, sym, subst, _∙_}
-use mathlib.Core.Bool.{Bool, true, false, _&&_}
+use mathlib.Core.Path.{_≡_, subst}
+use mathlib.Core.Bool.{true, false, _&&_}
 use mathlib.Core.Logic.{_↔_}
 use mathlib.Core.List.{List}
 use Prim.Native.Nat.{ℕ, _≤_, _<_}
@@ -13,7 +13,7 @@ use Rattle.kinds.proofs.Laws.{has?-is}
 use Rattle.book.specs.declared.Node.{Node}
 use Rattle.book.specs.declared.Node.the-variants.{Fail}
 use Rattle.grammar.specs.Rules.{First, Nullable}
-use Rattle.plan.specs.Cells.{Marks, Marked}
+use Rattle.plan.specs.Cells.{Marked}
 use Rattle.plan.specs.Table.{nullSet, firstSet, marksOf}
 
 -- a guarded test of a set, for a fact that no number beyond the count has

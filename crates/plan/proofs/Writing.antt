@@ -1,16 +1,16 @@
 -- What the plan writer is called with, and the row that it writes for a node.
-use mathlib.Core.Path.{_≡_, refl, sym, ap, ap₂, _∙_}
-use mathlib.Core.Bool.{Bool, cond}
+use mathlib.Core.Path.{_≡_, sym, ap, ap₂, _∙_}
+use mathlib.Core.Bool.{cond}
 use mathlib.Core.List.{List, _++_, append-assoc}
-use Prim.Native.Nat.{ℕ, _+_, _*_, _-_, _≤_, _<_}
+use Prim.Native.Nat.{ℕ, _+_, _-_, _≤_, _<_}
 use native.Mathlib.Omega.{arith}
 use lib.ListN.{length, drop, length-drop, length-append}
 use lib.Seq.{sets, length-sets}
 use Rattle.kinds.specs.Kinds.{has?}
-use Rattle.words.specs.Words.{u16At, zeros}
+use Rattle.words.specs.Words.{zeros}
 use Rattle.book.specs.Book.{leftOf}
 use Rattle.book.specs.Decode.{nodeAt}
-use Rattle.book.specs.Form.{nodesAt, countOf, settingsAt, bookOf}
+use Rattle.book.specs.Form.{nodesAt, bookOf}
 use Rattle.book.specs.declared.Node.{Node}
 use Rattle.book.proofs.Decoded.{Formed, formed, nodes-below}
 use Rattle.plan.specs.Cells.{Marks}

@@ -2,7 +2,7 @@
 use Prim.Native.Nat.{ℕ, zero, suc, _+_, _*_, _/_, _%_}
 use mathlib.Core.Bool.{Bool, cond}
 use mathlib.Core.List.{List, [], _∷_, _++_}
-use lib.ListN.{length, drop}
+use lib.ListN.{drop}
 use Rattle.book.specs.Book.{Book, leftOf, rightOf}
 use Rattle.book.specs.Form.{settingsAt, bookOf}
 use Rattle.plan.specs.Cells.{Marks, cellOf}

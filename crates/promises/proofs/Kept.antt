@@ -1,13 +1,12 @@
 -- The promises are kept: each statement of specs/Promises.antt, for all bytes.
-use Prim.Native.Nat.{ℕ, _≤_, _<_}
-use native.Mathlib.Omega.{arith}
-use mathlib.Core.Path.{_≡_, refl}
-use mathlib.Core.Logic.{_↔_, _≢_}
-use mathlib.Core.List.{List, []}
+use Prim.Native.Nat.{ℕ, _≤_}
+use mathlib.Core.Path.{_≡_}
+use mathlib.Core.Logic.{_≢_}
+use mathlib.Core.List.{List, _∷_}
 use lib.ListN.{length, take}
-use Rattle.book.specs.Book.{Book}
 use Rattle.words.specs.Words.{zeros}
 use Rattle.book.specs.Form.{DONE, formOf, bookOf}
+use Rattle.book.proofs.Laws.{form-listed}
 use Rattle.plan.specs.Cells.{Marks, Marked, cellOf}
 use Rattle.grammar.specs.Rules.{Reach}
 use Rattle.compiler.specs.declared.Compiled.{Compiled}
@@ -25,7 +24,6 @@ use Rattle.reader.proofs.Fold.{reading-steps}
 use Rattle.plan.specs.Form.{planFrom}
 use Rattle.plan.specs.Running.{Plan, taken, walk, reading}
 use Rattle.grammar.specs.Derivations.{Derives}
-use Rattle.grammar.specs.Passing.{Passes}
 use Rattle.meaning.specs.Plans.{freePlan}
 use Rattle.meaning.proofs.Unique.{derivation-unique}
 use Rattle.meaning.proofs.Walks.{walks-take}
@@ -33,7 +31,12 @@ use Rattle.worked.specs.Worked.{Each, Holds, table}
 use Rattle.worked.proofs.Checked.{worked}
 use Rattle.promises.specs.Promises.{CompileAnswers, ReadAnswers, PassesExactly, PlanByRules, slotsEnough, roomEnough, ReadsAsMeant, FewRecords, OneDerivation, wider}
 use Rattle.promises.proofs.More.{slots-more, room-more}
-use Rattle.promises.proofs.Meant.{passed-passes, passed-reads, passed-records}
+use Rattle.promises.proofs.Meant.{passed-passes, passed-reads, passed-reads-any, passed-records}
+use Rattle.promises.proofs.Readers.{not-constant, not-nodding}
+
+-- Demand 1: the number of a form test is one of 0 to 4
+pub form-answers : (bytes : List ℕ) → formOf bytes .number ≤ 4
+form-answers bytes = form-listed bytes
 
 -- Demand 1: every compiling call has an answer, and one only
 pub compiling-answers : (bytes : List ℕ) (room : ℕ) → (a : Compiled) × (plan : List ℕ) × Compiles bytes room a plan
@@ -93,6 +96,13 @@ module _ {bytes : List ℕ} {room : ℕ} {a : Compiled} {plan : List ℕ} (compi
       → ReadsAsMeant (bookOf bytes) run tree-room (readOf (take (a .size) plan) run slots tree-room)
   demand-3 run slots tree-room short slots-do room-does = passed-reads compiled is run slots tree-room short slots-do room-does
 
+  -- whatever the slots and the tree room: an answer other than DEEP and NO ROOM is as the book means
+  pub demand-3-any : (run : List ℕ) (slots tree-room : ℕ) → length run ≤ 65535
+      → readOf (take (a .size) plan) run slots tree-room .reading .number ≢ DEEP
+      → readOf (take (a .size) plan) run slots tree-room .reading .number ≢ NO-ROOM
+      → ReadsAsMeant (bookOf bytes) run tree-room (readOf (take (a .size) plan) run slots tree-room)
+  demand-3-any run slots tree-room short not-deep roomy = passed-reads-any compiled is run slots tree-room short not-deep roomy
+
   pub demand-3-records : (run : List ℕ) (slots tree-room : ℕ) → readOf (take (a .size) plan) run slots tree-room .reading .number ≡ DONE
       → FewRecords (bookOf bytes .count) (length run) (readOf (take (a .size) plan) run slots tree-room .reading .records)
   demand-3-records run slots tree-room done = passed-records compiled is run slots tree-room done
@@ -132,6 +142,22 @@ module _ (answers : List ℕ → ℕ → Compiled) (plans : List ℕ → ℕ →
 
   pub no-compiler-writes-no-plan : ((bytes : List ℕ) (room : ℕ) → plans bytes room ≡ zeros room) → ⊥
   no-compiler-writes-no-plan = not-all-clear answers plans meets
+
+-- Demand 3 shuts out a reader with one constant answer, and one that walks at the first event and then only nods
+module _ (answers : (plan run held tree : List ℕ) → Reading) (slots trees : (plan run held tree : List ℕ) → List ℕ)
+    (meets : (plan run held tree : List ℕ)
+    → Reads plan run held tree (answers plan run held tree) (slots plan run held tree) (trees plan run held tree)) where
+  pub no-reader-is-constant : (given : Reading)
+      → ((bytes : List ℕ) (room : ℕ) (a : Compiled) (plan : List ℕ) → Compiles bytes room a plan → a .number ≡ DONE
+      → (run held tree : List ℕ) → answers (take (a .size) plan) run held tree ≡ given)
+      → ⊥
+  no-reader-is-constant = not-constant answers slots trees meets
+
+  pub no-reader-nods : ((bytes : List ℕ) (room : ℕ) (a : Compiled) (plan : List ℕ) → Compiles bytes room a plan → a .number ≡ DONE
+      → (k : ℕ) (run other held tree : List ℕ)
+      → answers (take (a .size) plan) (k ∷ run) held tree .number ≡ answers (take (a .size) plan) (k ∷ other) held tree .number)
+      → ⊥
+  no-reader-nods = not-nodding answers slots trees meets
 
 -- the worked table
 pub worked-table : Each Holds table

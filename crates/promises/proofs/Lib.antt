@@ -2,3 +2,4 @@ pub mod Kept
 mod Meant
 mod More
 mod Outcomes
+mod Readers

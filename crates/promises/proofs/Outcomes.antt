@@ -3,7 +3,7 @@ use Prim.Native.Nat.{ℕ, _-_, _≤_, _<_}
 use native.Mathlib.Omega.{arith}
 use borrow.Author.Tests.{le-leb}
 use mathlib.Core.Path.{_≡_, refl, sym, ap, _∙_}
-use mathlib.Core.Logic.{_↔_, _⊎_, inl, inr}
+use mathlib.Core.Logic.{_⊎_, inl, inr}
 use mathlib.Core.List.{List, [], _++_}
 use lib.ListN.{length, getD}
 use Rattle.words.specs.Words.{zeros}
@@ -14,7 +14,7 @@ use Rattle.reader.specs.Numbers.{DEEP, UNKNOWN, UNEXPECTED, END, RUNAWAY, answe
 use Rattle.reader.specs.Reads.{Outcome, outcome, acceptedOf, outcomeOf}
 use Rattle.grammar.specs.Derivations.{Lawful}
 use Rattle.grammar.specs.Passing.{Passes}
-use Rattle.meaning.specs.Meaning.{tree, Accepts, Refuses, Ends, Means, means-accepted, means-unknown, means-unexpected, means-end, told}
+use Rattle.meaning.specs.Meaning.{tree, Refuses, Ends, Means, means-accepted, means-unknown, means-unexpected, means-end, told}
 use Rattle.meaning.proofs.Verdict.{means-unique}
 use Rattle.promises.specs.Promises.{ReadsAsMeant}
 

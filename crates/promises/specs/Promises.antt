@@ -11,15 +11,15 @@ use Rattle.words.specs.Words.{zeros}
 use Rattle.book.specs.Book.{Book}
 use Rattle.book.specs.Form.{DONE, formOf, bookOf}
 use Rattle.book.specs.declared.Node.{Node}
-use Rattle.plan.specs.Cells.{Marks, Marked, cellOf}
+use Rattle.plan.specs.Cells.{Marks, cellOf}
 use Rattle.plan.specs.Bytes.{planBytes}
 use Rattle.plan.specs.Form.{cellAt, planCount, planOf}
 use Rattle.plan.specs.Running.{accepted, reading}
 use Rattle.compiler.specs.declared.Compiled.{Compiled}
 use Rattle.grammar.specs.Passing.{Fruitful, Free}
-use Rattle.compiler.specs.Compiles.{Compiles, sizeOf}
+use Rattle.compiler.specs.Compiles.{sizeOf}
 use Rattle.reader.specs.Numbers.{UNKNOWN, UNEXPECTED, END, NO-ROOM, answered}
-use Rattle.reader.specs.Reads.{Outcome, outcome, readOf}
+use Rattle.reader.specs.Reads.{Outcome, outcome}
 use Rattle.grammar.specs.Derivations.{Derives, full, Lawful}
 use Rattle.meaning.specs.Meaning.{tree, Refuses, Ends}
 

@@ -4,8 +4,8 @@ use mathlib.Core.Bool.{Bool, true, false, cond}
 use mathlib.Core.List.{List, [], _∷_, _++_, append-assoc}
 use Prim.Native.Nat.{ℕ, suc}
 use lib.Dec.{ltb}
-use Rattle.plan.specs.Running.{Plan, Step, taken, refused, deep, runaway, event, Answer, accepted, deep-at, unknown-at, unexpected-at, end-at, runaway-at, logged, onward, finish, reads, reading}
-use Rattle.reader.specs.Steps.{Progress, going, stopped, advanced, step, steps, closed, begun}
+use Rattle.plan.specs.Running.{Plan, Step, taken, refused, deep, runaway, event, Answer, accepted, deep-at, unknown-at, unexpected-at, end-at, runaway-at, logged, onward, reads, reading}
+use Rattle.reader.specs.Steps.{going, stopped, advanced, step, steps, closed, begun}
 
 -- records written in two turns
 pub logged-logged : (records more : List ℕ) (answer : Answer) → logged records (logged more answer) ≡ logged (records ++ more) answer

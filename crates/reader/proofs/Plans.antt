@@ -1,21 +1,18 @@
 -- What the bytes of a runnable plan say: where cells and nodes stand, and what a cell says of its node's left and right.
 use mathlib.Core.Path.{_≡_, refl, sym, ap, _∙_}
-use mathlib.Core.Bool.{true, false}
 use mathlib.Core.Logic.{_⊎_, ⊎-elim}
 use mathlib.Core.List.{List}
-use Prim.Native.Nat.{ℕ, zero, suc, _+_, _*_, _≤_, _<_}
+use Prim.Native.Nat.{ℕ, zero, suc, _+_, _≤_, _<_}
 use native.Mathlib.Omega.{arith}
 use native.Mathlib.Decide.{decLt}
 use lib.Arith.{digits-lt}
-use lib.Dec.{ltb}
 use lib.ListN.{length}
 use Rattle.book.specs.Book.{leftOf, rightOf, Proper, fail-is, empty-is, token-is, either-is, then-is, tagged-is, ref-is}
 use Rattle.book.specs.Decode.{nodeOf, nodes, nodeAt, typeAt, leftAt, rightAt}
 use Rattle.book.specs.declared.Node.{Node}
 use Rattle.book.proofs.Decoded.{nodes-below, nodes-beyond}
-use Rattle.plan.specs.Running.{Plan}
-use Rattle.plan.specs.Form.{planNodesAt, planCount, planKinds, planStart, planFrom, planJudged, rowAt, cellAt, oneCell, otherCell}
-use Rattle.plan.proofs.Laws.{Legal, Done, done, size-small}
+use Rattle.plan.specs.Form.{planNodesAt, planCount, planKinds, planFrom, planJudged, rowAt, cellAt}
+use Rattle.plan.proofs.Laws.{Legal, done, size-small}
 use Rattle.book.specs.Form.{DONE}
 use Rattle.reader.specs.Ready.{onSlots, Runnable}
 use Rattle.reader.proofs.Simulation.{Bounded}

@@ -1,12 +1,11 @@
 -- The part held last, and the kinds of its row.
-use mathlib.Core.Path.{_≡_, refl, sym, ap, _∙_}
-use mathlib.Core.List.{List, [], _∷_}
-use Prim.Native.Nat.{ℕ, zero, suc, _+_, _*_, _-_, _^_, _≤_, _<_}
+use mathlib.Core.Path.{_≡_, refl, _∙_}
+use mathlib.Core.List.{List}
+use Prim.Native.Nat.{ℕ, zero, suc, _+_, _-_, _^_, _≤_, _<_}
 use native.Mathlib.Nat.{pow-suc}
 use native.Mathlib.Numerals.{add-one}
 use native.Mathlib.Omega.{arith}
-use lib.ListN.{length, getD}
-use lib.Pow.{pow-mono, pow-pos}
+use lib.ListN.{getD}
 use Rattle.plan.specs.Running.{Plan, takenCell, rowFirst, expected}
 use Rattle.plan.specs.Form.{planFrom}
 use Rattle.reader.specs.Machine.{Held, stack, lastOf, expectedOf, refusal}

@@ -6,15 +6,15 @@ use Prim.Native.Nat.{ℕ, zero, suc, _+_, _*_, _-_, _≤_, _<_}
 use native.Mathlib.Nat.{add-zero}
 use native.Mathlib.Numerals.{add-one}
 use native.Mathlib.Omega.{arith}
-use lib.Dec.{ltb, eqb}
+use lib.Dec.{ltb}
 use lib.ListN.{length, getD, set, length-append}
 use lib.Seq.{sets}
 use Rattle.book.specs.Form.{DONE}
-use Rattle.plan.specs.Running.{Plan, emptied, Step, taken, refused, deep, runaway, event, expected, Answer, accepted, deep-at, unknown-at, unexpected-at, end-at, runaway-at, logged, onward, finish, reads}
+use Rattle.plan.specs.Running.{Plan, emptied, Step, event, expected, Answer, accepted, deep-at, unknown-at, unexpected-at, end-at, runaway-at, logged, onward, finish, reads}
 use Rattle.reader.specs.Numbers.{DEEP, UNKNOWN, UNEXPECTED, END, RUNAWAY, answered}
-use Rattle.reader.specs.Machine.{After, Held, Ended, stands, refusal, ended, stack, takeOf, eventOf, onOf, finishOf, closeOf, readsOf}
+use Rattle.reader.specs.Machine.{After, Held, Ended, stands, ended, stack, takeOf, eventOf, onOf, finishOf, closeOf, readsOf}
 use Rattle.reader.proofs.Slots.{stack-length, held-less}
-use Rattle.reader.proofs.Simulation.{Took, Stepped, as-taken, as-refused, as-deep, as-runaway, Bounded, take-same}
+use Rattle.reader.proofs.Simulation.{Stepped, as-taken, as-refused, as-deep, as-runaway, Bounded, take-same}
 use Rattle.plan.proofs.Records.{Within, taken-within, refused-within, deep-within, runaway-within, within-more, event-within}
 
 -- records stored after records are stored together

@@ -1,24 +1,24 @@
 -- A run's end, settled, is the outcome of reading.
-use mathlib.Core.Path.{_≡_, refl, sym, ap, ap₂, _∙_}
+use mathlib.Core.Path.{_≡_, refl, ap, ap₂, _∙_}
 use mathlib.Core.Bool.{Bool, true, false, cond}
 use mathlib.Core.List.{List, [], _∷_, _++_, append-nil}
-use Prim.Native.Nat.{ℕ, zero, suc, _+_, _-_, _≤_, _<_}
+use Prim.Native.Nat.{ℕ, _+_, _-_, _≤_, _<_}
 use native.Mathlib.Nat.{zero-add}
 use native.Mathlib.Omega.{arith}
-use borrow.Author.Tests.{leb-true, le-leb, lt-leb, lt-ltb, le-ltb, eq-eqb, ne-eqb}
+use borrow.Author.Tests.{leb-true, le-leb, lt-leb, lt-ltb, eq-eqb, ne-eqb}
 use borrow.Rule.Slice.PartMut.{midOf, putMid, mid-len, post-is}
-use lib.Dec.{ltb, leb, eqb}
+use lib.Dec.{ltb, leb}
 use lib.ListN.{length, getD, set, take, drop, length-set}
 use lib.Seq.{sets, sets-eq, length-sets, take-at, getD-set-same, drop-length}
 use Rattle.words.specs.Words.{zeros}
 use Rattle.book.specs.Form.{DONE}
-use Rattle.plan.specs.Running.{Plan, Answer, accepted, reads, reading}
-use Rattle.plan.specs.Form.{planFrom, planOf, planCount, planKinds, planStart, planJudged}
+use Rattle.plan.specs.Running.{Plan, Answer, reads, reading}
+use Rattle.plan.specs.Form.{planFrom, planOf, planCount, planStart, planJudged}
 use Rattle.plan.proofs.Laws.{done}
 use Rattle.reader.specs.declared.Reading.{Reading}
 use Rattle.reader.specs.Numbers.{LONG, DEEP, NO-ROOM, answered}
 use Rattle.reader.specs.Machine.{Ended, Held, stack, readsOf}
-use Rattle.reader.specs.Reads.{Outcome, outcome, bare, acceptedOf, outcomeOf, runOf, readOf}
+use Rattle.reader.specs.Reads.{outcome, bare, acceptedOf, outcomeOf, runOf, readOf}
 use Rattle.reader.specs.Settled.{settledOf}
 use Rattle.reader.proofs.Runs.{Ends, as-accepted, as-deep-at, as-unknown-at, as-unexpected-at, as-end-at, as-runaway-at, reads-same}
 use Rattle.reader.proofs.Plans.{runnable, plan-bounded}

@@ -1,17 +1,17 @@
 -- The machine on slots and a tree comes to what running a plan comes to: the held list is the slots' stack, the records are those stored.
-use mathlib.Core.Path.{_≡_, refl, sym, ap, _∙_}
+use mathlib.Core.Path.{_≡_, refl}
 use mathlib.Core.Bool.{Bool, true, false, cond}
-use mathlib.Core.List.{List, [], _∷_, _++_}
-use Prim.Native.Nat.{ℕ, zero, suc, _+_, _≤_, _<_}
+use mathlib.Core.List.{List, [], _∷_}
+use Prim.Native.Nat.{ℕ, zero, suc, _+_, _<_}
 use native.Mathlib.Omega.{arith}
 use borrow.Author.Tests.{ltb-true}
-use lib.Dec.{ltb, eqb}
-use lib.ListN.{length, getD, set, length-append}
+use lib.Dec.{ltb}
+use lib.ListN.{length, getD, set}
 use lib.Seq.{sets}
 use Rattle.book.specs.Form.{DONE}
 use Rattle.plan.specs.Running.{Plan, emptied, Step, taken, refused, deep, runaway, noted, visit, takeOff, walk, event}
-use Rattle.reader.specs.Numbers.{DEEP, UNKNOWN, UNEXPECTED, END, RUNAWAY}
-use Rattle.reader.specs.Machine.{After, Held, Go, stands, stack, visitOf, offOf, walkOf, takeOf, eventOf}
+use Rattle.reader.specs.Numbers.{DEEP, UNEXPECTED, RUNAWAY}
+use Rattle.reader.specs.Machine.{After, Held, Go, stands, stack, visitOf, offOf, walkOf, takeOf}
 use Rattle.reader.proofs.Slots.{stack-length, stack-held, held-more, held-less}
 
 module _ (nodes slots : ℕ) where

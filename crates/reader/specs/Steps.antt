@@ -3,7 +3,7 @@ use Prim.Native.Nat.{ℕ, suc}
 use mathlib.Core.Bool.{cond}
 use mathlib.Core.List.{List, [], _∷_, _++_}
 use lib.Dec.{ltb}
-use Rattle.plan.specs.Running.{Plan, Step, taken, refused, deep, runaway, event, Answer, accepted, deep-at, unknown-at, unexpected-at, end-at, runaway-at, logged, finish}
+use Rattle.plan.specs.Running.{Plan, Step, taken, refused, deep, runaway, event, Answer, deep-at, unknown-at, unexpected-at, runaway-at, logged, finish}
 
 -- a reading under way: so many events taken, these parts held, these records written; or it has stopped with a refusal
 pub data Progress : Type 0 where

@@ -1,11 +1,11 @@
 -- Marks that spread from marked nodes to their children: each stands for a reachable node, and where none is new, all of those are marked.
 use Prim.Native.Nat.{ℕ, _+_, _*_, _/_, _%_, _≤_, _<_}
 use mathlib.Core.Path.{_≡_, refl, sym, _∙_, subst}
-use mathlib.Core.Bool.{Bool, true, false, _||_}
+use mathlib.Core.Bool.{Bool, false, _||_}
 use mathlib.Core.List.{List}
 use mathlib.Core.Logic.{_⊎_, inl, inr, ⊎-elim}
 use native.Mathlib.Omega.{arith}
-use lib.ListN.{length, getD}
+use lib.ListN.{length}
 use Rattle.kinds.specs.Kinds.{Has, onlyKind}
 use Rattle.kinds.proofs.Laws.{has-single}
 use Rattle.book.specs.Book.{Proper}

@@ -1,12 +1,12 @@
 // The rules of figure 5.
 ghost use mathlib.Core.Path.{_≡_};
-ghost use Prim.Native.Nat.{ℕ, _+_, _*_, _/_, _%_, _≤_, _<_};
+ghost use Prim.Native.Nat.{_+_, _*_, _/_, _%_, _≤_, _<_};
 ghost use lib.ListN.{length, getD};
 ghost use Rattle.kinds.specs.Kinds.{has?, onlyKind};
 ghost use Rattle.book.specs.Decode.{nodes, GoodNodes};
 ghost use Rattle.rules.specs.Facts.{Facts, Reached, Marked};
 ghost use Rattle.rules.specs.Conflicts.{ConflictAt, Conflicting, LowestConflict};
-ghost use Rattle.rules.specs.Growth.{Sound, Blank, Joined, Grown, Visited, Turned, visitedAt};
+ghost use Rattle.rules.specs.Growth.{Sound, Blank, Joined, Visited, Turned, visitedAt};
 ghost use Rattle.rules.specs.Step.{leftFrom, rightFrom, kindOf, factsAt, eitherFacts, thenFacts, ruledOf, isRef, EitherReport, reportedOf, FactAt, Given, PutAt, RefClosed, Climbed, Spread, SpreadAll};
 use book::Node;
 

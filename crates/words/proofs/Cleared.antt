@@ -1,10 +1,10 @@
 -- Clearing a list from the front: the laws of a loop that stores zeros, at any width.
-use mathlib.Core.Path.{_≡_, refl, sym, ap, _∙_}
+use mathlib.Core.Path.{_≡_, ap, _∙_}
 use mathlib.Core.List.{List, _++_, append-nil}
 use Prim.Native.Nat.{ℕ, _+_, _-_, _≤_, _<_}
 use native.Mathlib.Omega.{arith}
 use borrow.Author.Fill.{fill-none, fill-more}
-use lib.ListN.{length, set, drop, replicate, length-append, length-replicate, length-drop, drop-of-length-le}
+use lib.ListN.{length, set, drop, length-append, length-replicate, length-drop, drop-of-length-le}
 use Rattle.words.specs.Words.{zeros}
 
 -- the first so many elements are zeros, the others as they were

@@ -1,7 +1,7 @@
 // 16-bit numbers in byte slices, low byte first; clearing lent buffers.
 ghost use mathlib.Core.Path.{_≡_};
-ghost use Prim.Native.Nat.{_+_, _*_, _<_, _%_, _/_, _^_};
-ghost use lib.ListN.{length, getD, set, replicate};
+ghost use Prim.Native.Nat.{_+_, _*_, _<_, _%_, _/_};
+ghost use lib.ListN.{length};
 ghost use Rattle.words.specs.Words.{u16At, zeros, withU16};
 
 // A byte as a number.

@@ -6,7 +6,7 @@ use borrow.Author.Needs.{needs}
 use borrow.Author.Tests.{not-true, not-false, lt-ltb, le-ltb}
 use denote.Ref.{now}
 use lib.ListN.{length}
-use Rattle.book.specs.Form.{countOf, lengthGood, contentsGood, settingsGood, settingsAt, formOf, nodesForm}
+use Rattle.book.specs.Form.{lengthGood, contentsGood, formOf, nodesForm}
 use Rattle.book.proofs.Laws.{Sized, sized, form-length, form-contents, form-settings, form-nodes}
 use Rattle.book.proofs.form.Statement.{statement}
 use Rattle.book.proofs.form.Tie as tie

@@ -1,7 +1,5 @@
 -- `plan::judge` meets its contract: each return is the law of `planJudged` for the tests that led there.
 use mathlib.Core.Path.{_≡_, sym, _∙_}
-use mathlib.Core.Bool.{true}
-use native.Mathlib.Omega.{arith}
 use borrow.Author.Needs.{needs}
 use borrow.Author.Tests.{not-true, not-false}
 use denote.Ref.{now}

@@ -1,7 +1,7 @@
 -- `plan::judge_cells` meets its contract. The loop's invariant: what is left to search gives the answer, and `at` is where the row begins. The
 -- measure is what is left of the count.
 use mathlib.Core.Path.{_≡_, refl, sym, ap, _∙_}
-use mathlib.Core.Bool.{true, false}
+use mathlib.Core.Bool.{false}
 use Prim.Native.Nat.{_+_, _-_, _≤_}
 use native.Mathlib.Omega.{arith}
 use borrow.Author.Needs.{needs}

@@ -1,7 +1,6 @@
 -- `plan::put_book` meets its contract. The loop's invariant: what is left to store makes up the book's settings and nodes. The measure is what is
 -- left of them.
 use Prim.Native.Nat.{_+_, _-_}
-use native.Mathlib.Omega.{arith}
 use borrow.Author.Needs.{needs}
 use lib.ListN.{length, getD}
 use Rattle.plan.proofs.Stored.{Stored, stored-none, stored-more, stored-copy}

@@ -1,7 +1,7 @@
 -- `plan::write_rows` meets its contract. The loop's invariant: the rows left to store make up all rows, and `at` is where the next begins, with
 -- zeros from there on. The measure is what is left of the count.
 use mathlib.Core.Path.{_≡_, ap, _∙_}
-use Prim.Native.Nat.{ℕ, _+_, _-_}
+use Prim.Native.Nat.{_-_}
 use native.Mathlib.Omega.{arith}
 use borrow.Author.Needs.{needs}
 use lib.Seq.{sets}

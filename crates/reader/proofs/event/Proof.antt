@@ -1,14 +1,14 @@
 -- `reader::event` meets its contract. The loop's invariant: taking the parts left off comes to the event's end, and the state is sound. The
 -- measure is the parts left.
-use mathlib.Core.Path.{_≡_, refl, sym, ap, _∙_}
-use Prim.Native.Nat.{ℕ, _+_, _-_, _≤_, _<_}
+use mathlib.Core.Path.{refl, sym, _∙_}
+use Prim.Native.Nat.{_+_, _-_, _<_}
 use native.Mathlib.Omega.{arith}
-use lib.ListN.{length, getD}
+use lib.ListN.{length}
 use borrow.Author.Needs.{needs}
 use borrow.Author.Tests.{lt-ltb, le-ltb, eq-eqb, ne-eqb}
 use Rattle.plan.specs.Running.{Plan}
 use Rattle.plan.specs.Form.{planFrom}
-use Rattle.reader.specs.Machine.{walkOf, takeOf, eventOf}
+use Rattle.reader.specs.Machine.{takeOf, eventOf}
 use Rattle.reader.specs.Ready.{onSlots}
 use Rattle.reader.proofs.Takes.{Taking, lastAt, last-below, last-inside, fewer, take-none, take-walks, take-refuses, take-passes}
 use Rattle.reader.proofs.event.Statement.{statement}

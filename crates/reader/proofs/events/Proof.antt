@@ -1,14 +1,13 @@
 -- `reader::events` meets its contract. The loop's invariant: what is left of the run comes to the whole run's end, and the state is sound. The
 -- measure is what is left of the run.
-use mathlib.Core.Path.{_≡_, refl, sym, ap, _∙_}
-use Prim.Native.Nat.{ℕ, _+_, _*_, _-_, _≤_, _<_}
+use mathlib.Core.Path.{_≡_, refl, ap, _∙_}
+use Prim.Native.Nat.{_-_}
 use native.Mathlib.Omega.{arith}
 use borrow.Author.Needs.{needs}
 use lib.ListN.{length, getD}
-use Rattle.plan.specs.Running.{Plan}
 use Rattle.plan.specs.Form.{planFrom}
 use Rattle.reader.specs.declared.Reading.{Reading}
-use Rattle.reader.specs.Machine.{After, Held, after, ended, eventOf, readsOf}
+use Rattle.reader.specs.Machine.{After, after, ended, eventOf, readsOf}
 use Rattle.reader.specs.Ready.{onSlots, Ready}
 use Rattle.reader.proofs.Plans.{plan-bounded}
 use Rattle.reader.proofs.Rows.{last-node, refusal-is}

@@ -1,7 +1,6 @@
 -- `reader::expected_at` meets its contract: nothing for DEEP and RUNAWAY or where no part was held, else the last part's row.
 use borrow.Author.Needs.{needs}
-use borrow.Author.Tests.{eq-eqb, ne-eqb}
-use mathlib.Core.Path.{_≡_, refl, sym, ap, _∙_}
+use borrow.Author.Tests.{ne-eqb}
 use Rattle.plan.specs.Form.{planFrom}
 use Rattle.reader.specs.Machine.{expectedOf}
 use Rattle.reader.proofs.Rows.{expected-some}

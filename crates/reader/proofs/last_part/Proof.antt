@@ -1,10 +1,8 @@
 -- `reader::last_part` meets its contract.
 use borrow.Author.Needs.{needs}
-use mathlib.Core.Path.{_≡_, refl, sym, ap, _∙_}
+use mathlib.Core.Path.{sym}
 use native.Mathlib.Omega.{arith}
-use Prim.Native.Nat.{ℕ, zero, suc, _-_}
-use lib.ListN.{getD}
-use mathlib.Core.List.{List}
+use Prim.Native.Nat.{_-_}
 use Rattle.reader.specs.Machine.{lastOf}
 use Rattle.reader.proofs.Rows.{last-is}
 use Rattle.reader.proofs.last_part.Statement.{statement}

@@ -1,9 +1,8 @@
 -- `reader::settle` meets its contract, by each of its tests.
 use borrow.Author.Needs.{needs}
-use mathlib.Core.Path.{_≡_, sym, ap, _∙_}
-use mathlib.Core.List.{List, _++_}
+use mathlib.Core.Path.{sym, ap, _∙_}
+use mathlib.Core.List.{List}
 use Prim.Native.Nat.{ℕ}
-use lib.ListN.{take}
 use Rattle.reader.specs.Numbers.{answered}
 use Rattle.reader.specs.Reads.{outcome}
 use Rattle.reader.proofs.Settles.{rest-cleared, settled-refused, settled-full, settled-fits}

@@ -1,17 +1,17 @@
 -- `reader::walk` meets its contract. The loop's invariant: what is left of the walk comes to the whole walk's end, and the state is sound. The
 -- measure is the visits left.
-use mathlib.Core.Path.{_≡_, refl, sym, ap, _∙_}
-use Prim.Native.Nat.{ℕ, suc, _+_, _*_, _-_, _≤_, _<_}
+use mathlib.Core.Path.{_≡_, refl, sym, _∙_}
+use Prim.Native.Nat.{suc, _+_, _*_, _-_, _≤_, _<_}
 use native.Mathlib.Nat.{sub-zero}
 use native.Mathlib.Omega.{arith}
-use lib.ListN.{length, set}
+use lib.ListN.{length}
 use borrow.Author.Needs.{needs}
 use Rattle.book.specs.Decode.{leftAt, rightAt}
 use Rattle.plan.specs.Running.{Plan}
-use Rattle.plan.specs.Form.{planFrom, planNodesAt, cellAt}
-use Rattle.reader.specs.Machine.{After, walkOf}
-use Rattle.reader.specs.Ready.{onSlots, Runnable}
-use Rattle.reader.proofs.Plans.{cell-inside, left-is, right-is, plan-bounded}
+use Rattle.plan.specs.Form.{planFrom, planNodesAt}
+use Rattle.reader.specs.Machine.{walkOf}
+use Rattle.reader.specs.Ready.{onSlots}
+use Rattle.reader.proofs.Plans.{left-is, right-is, plan-bounded}
 use Rattle.reader.proofs.Simulation.{Bounded}
 use Rattle.reader.proofs.Walks.{Walking, walk-ends, walk-takes, walk-refuses, walk-deep, walk-left, walk-right, walk-holds, walk-skips}
 use Rattle.reader.proofs.walk.Statement.{statement}

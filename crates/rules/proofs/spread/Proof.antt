@@ -1,7 +1,6 @@
 -- `rules::spread` meets its contract: a marked node's children are marked, and another has nothing to spread.
 use mathlib.Core.Path.{sym, _∙_}
 use mathlib.Core.Bool.{true≢false}
-use native.Mathlib.Omega.{arith}
 use borrow.Author.Needs.{needs}
 use Rattle.kinds.proofs.Laws.{has?-is}
 use Rattle.rules.proofs.Spreading.{none-spread}
