@@ -30,7 +30,7 @@ use Rattle.compiler.specs.declared.Compiled.{Compiled}
 use Rattle.grammar.specs.Passing.{Fruitful}
 use Rattle.compiler.specs.Compiles.{Compiles, malformed, barren, conflict, no-room, done, answer, BARREN, CONFLICT, PLAN-ROOM, sizeOf}
 use Rattle.compiler.specs.Stages.{Clear, GoodForm, Known, Sound}
-use Rattle.grammar.proofs.Bounds.{named-below, reach-below}
+use Rattle.rules.proofs.Bounds.{named-below, reach-below}
 use Rattle.compiler.proofs.Bounds.{first-kind, reported-small}
 
 -- nodes that are good for fewer kinds are good for more

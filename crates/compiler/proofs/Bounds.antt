@@ -4,7 +4,7 @@ use native.Mathlib.Omega.{arith}
 use Rattle.book.specs.declared.Node.{Node}
 use Rattle.book.specs.Book.{Book, WellFormed}
 use Rattle.grammar.specs.Rules.{First}
-use Rattle.grammar.proofs.Bounds.{named-below}
+use Rattle.rules.proofs.Bounds.{named-below}
 use Rattle.rules.specs.Conflicts.{Reported, both-nullable, in-both-first, in-snf-and-first}
 use Rattle.rules.proofs.Laws.{first-below}
 

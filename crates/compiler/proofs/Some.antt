@@ -14,10 +14,10 @@ use Rattle.book.specs.Form.{DONE, formOf, bookOf}
 use Rattle.book.proofs.Decoded.{formed, well-formed}
 use Rattle.grammar.specs.Rules.{Nullable, First, Snf, Conflict, c-nullable, c-first, c-follow, Reach}
 use Rattle.grammar.specs.Passing.{Fruitful, Free}
-use Rattle.grammar.proofs.Bounds.{reach-below}
-use Rattle.grammar.proofs.Least.{Decided}
-use Rattle.grammar.proofs.Marks.{productive-decided, nullable-decided, first-decided, snf-decided}
-use Rattle.grammar.proofs.Reaching.{reach-decided}
+use Rattle.rules.proofs.Bounds.{reach-below}
+use Rattle.rules.proofs.Least.{Decided}
+use Rattle.rules.proofs.Marks.{productive-decided, nullable-decided, first-decided, snf-decided}
+use Rattle.rules.proofs.Reaching.{reach-decided}
 use Rattle.rules.specs.Conflicts.{LowestKind, Reported, both-nullable, in-both-first, in-snf-and-first}
 use Rattle.plan.specs.Cells.{Marks, Marked}
 use Rattle.compiler.specs.declared.Compiled.{Compiled}

@@ -2,7 +2,3 @@
 pub mod Facts
 pub mod Clear
 pub mod Unique
-pub mod Least
-pub mod Bounds
-pub mod Reaching
-pub mod Marks

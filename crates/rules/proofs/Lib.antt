@@ -6,3 +6,7 @@ pub mod Climbing
 pub mod Spreading
 pub mod Laws
 pub mod Reports
+pub mod Least
+pub mod Bounds
+pub mod Reaching
+pub mod Marks

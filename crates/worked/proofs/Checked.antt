@@ -12,9 +12,9 @@ use Rattle.words.proofs.Tests.{never, both}
 use Rattle.book.specs.Decode.{nodeAt, nodes, nodeGood, firstBad}
 use Rattle.book.specs.Form.{DONE, formOf, bookOf}
 use Rattle.book.proofs.Decoded.{formed, well-formed}
-use Rattle.grammar.proofs.Least.{filled, kept-or, differ, turned, settled, settle, decided}
-use Rattle.grammar.proofs.Marks.{ruled, given, facts-decided, fact-decided, productive-decided, nullable-decided, first-decided, snf-decided}
-use Rattle.grammar.proofs.Reaching.{child?, any, reached?, reach-decided}
+use Rattle.rules.proofs.Least.{filled, kept-or, differ, turned, settled, settle, decided}
+use Rattle.rules.proofs.Marks.{ruled, given, facts-decided, fact-decided, productive-decided, nullable-decided, first-decided, snf-decided}
+use Rattle.rules.proofs.Reaching.{child?, any, reached?, reach-decided}
 use Rattle.plan.specs.Bytes
 use Rattle.plan.specs.Bytes.{wordBytes, planBytes, planContents, valuesFrom, listsFrom}
 use Rattle.plan.specs.Cells.{cellOf}

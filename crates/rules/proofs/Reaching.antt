@@ -11,9 +11,9 @@ use Rattle.words.proofs.Tests.{never, both, joined, or-cases, or-left, or-right
 use Rattle.book.specs.declared.Node.{Node}
 use Rattle.book.specs.declared.Node.the-variants.{Fail, Empty, Token, Either, Then, Tagged, Ref}
 use Rattle.book.specs.Book.{Book, WellFormed}
 use Rattle.grammar.specs.Rules.{Child, either-left, either-right, then-left, then-right, tagged-left, ref-left, Reach, r-start, r-child}
-use Rattle.grammar.proofs.Bounds.{parent-below, child-below}
-use Rattle.grammar.proofs.Least.{Decided, Ruled, decided}
+use Rattle.rules.proofs.Bounds.{parent-below, child-below}
+use Rattle.rules.proofs.Least.{Decided, Ruled, decided}
 
 -- whether a number is the left or right of a node
 unfoldable pub child? : Node → ℕ → Bool

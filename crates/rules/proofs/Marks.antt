@@ -11,12 +11,12 @@ use Rattle.words.proofs.Tests.{never, both, joined, or-cases, or-left, or-right
 use Rattle.book.specs.declared.Node.{Node}
 use Rattle.book.specs.declared.Node.the-variants.{Fail, Empty, Token, Either, Then, Tagged, Ref}
 use Rattle.book.specs.Book.{Book, WellFormed}
 use Rattle.grammar.specs.Rules.{Productive, p-empty, p-token, p-left, p-right, p-then, p-tagged, p-ref}
 use Rattle.grammar.specs.Rules.{Nullable, n-empty, n-left, n-right, n-then, n-tagged, n-ref}
 use Rattle.grammar.specs.Rules.{First, f-token, f-left, f-right, f-hold, f-skip, f-tagged, f-ref}
 use Rattle.grammar.specs.Rules.{Snf, s-left, s-right, s-first-left, s-first-right, s-then-left, s-then-right, s-tagged, s-ref}
-use Rattle.grammar.proofs.Bounds.{named-below}
-use Rattle.grammar.proofs.Least.{Decided, Ruled, decided}
+use Rattle.rules.proofs.Bounds.{named-below}
+use Rattle.rules.proofs.Least.{Decided, Ruled, decided}
 
 -- what is marked of a node: that it is productive, nullable, and that the kind is in FIRST and in SNF
 pub record Four : Type 0 where
