@@ -21,7 +21,6 @@ use Rattle.compiler.specs.declared.Compiled.{Compiled}
 use Rattle.grammar.specs.Passing.{Fruitful, Free}
 use Rattle.compiler.specs.Compiles.{Compiles, malformed, barren, conflict, no-room, done, PLAN-ROOM, sizeOf}
 use Rattle.compiler.proofs.Unique.{reported-conflict, marks-unique}
-use Rattle.compiler.proofs.Some.{compiles-some}
 
 -- what is so where a book passes
 pub record Passed (bytes : List ℕ) (room : ℕ) (plan : List ℕ) : Type 0 where
@@ -71,16 +70,6 @@ module _ {bytes : List ℕ} {room : ℕ} where
       → Marked (bookOf bytes .node) marks
       → p ≡ planBytes bytes marks ++ zeros (room - sizeOf (bookOf bytes))
   passed-plan c d marked = rw (marks-unique marked (passed c d .marked)) (passed c d .plan-is)
-
--- exactly the well-formed books whose start can produce some run, with no reachable conflict, pass where there is room enough
-pub books-pass : (bytes : List ℕ) (room : ℕ)
-    → formOf bytes .number ≡ DONE
-    → sizeOf (bookOf bytes) ≤ room
-    → ((a : Compiled) × (p : List ℕ) × Compiles bytes room a p × (a .number ≡ DONE)) ↔ (Fruitful (bookOf bytes) × Free (bookOf bytes))
-books-pass bytes room form fits = (
-  (λ (a, p, c, good). (passed c good .fruitful, passed c good .free)),
-  (λ h. let (a, p, c) = compiles-some bytes room in (a, p, c, free-passes c form fits h)),
-)
 
 -- every answer's number is on the list: 0 to 7
 pub answer-listed : {bytes : List ℕ} {room : ℕ} {a : Compiled} {p : List ℕ} → Compiles bytes room a p → a .number ≤ PLAN-ROOM

@@ -8,7 +8,6 @@ use native.Mathlib.Omega.{arith}
 use lib.ListN.{length, getD, set, drop, length-set, length-replicate, drop-of-length-le}
 use lib.Seq.{sets, length-sets, sets-eq, drop-cons}
 use Rattle.words.specs.Words.{withU16, zeros}
-use Rattle.plan.proofs.Listed.{length-values}
 use Rattle.plan.specs.Bytes.{wordBytes, planContents, valuesFrom, listsFrom}
 
 -- one run of stores after another
@@ -87,18 +86,9 @@ module _ (value : ℕ → ℕ) where
         one-left : count - k ≡ suc (count - (k + 1))
         one-left = omega arith
 
-    pub stored-as : {v : ℕ} → k < count → v ≡ value k → Stored value before (set after (at + k) v) at count (k + 1)
-    stored-as below is = rw is (stored-more below)
-
     pub stored-all : count ≤ k → after ≡ sets before at (valuesFrom value count 0)
     unfolding valuesFrom
     stored-all past = let none : count - k ≡ 0 = omega arith in rw none at (s .rest)
-
-    -- one more store behind the values
-    pub stored-last : (v : ℕ) → count ≤ k → set after (at + count) v ≡ sets before at (valuesFrom value count 0 ++ (v ∷ []))
-    stored-last v past =
-        rw (stored-all past)
-        (sets-one before at (valuesFrom value count 0) (at + count) v (ap (λ (m : ℕ). at + m) (sym (length-values value count 0))))
 
 -- a list's elements from a place on
 pub drop-values : (l : List ℕ) (from : ℕ) → valuesFrom (λ i. getD l (from + i) 0) (length l - from) 0 ≡ drop from l

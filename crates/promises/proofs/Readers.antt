@@ -4,7 +4,7 @@ use Prim.Native.Nat.{ℕ}
 use native.Mathlib.Omega.{arith}
 use mathlib.Core.Path.{_≡_, refl, sym, ap, _∙_}
 use mathlib.Core.List.{List, [], _∷_, _++_}
-use lib.ListN.{length, take}
+use lib.ListN.{take}
 use lib.Seq.{take-at}
 use Rattle.words.specs.Words.{zeros}
 use Rattle.book.specs.Form.{DONE}
@@ -13,7 +13,7 @@ use Rattle.compiler.specs.Compiles.{Compiles, answer}
 use Rattle.reader.specs.declared.Reading.{Reading}
 use Rattle.reader.specs.Numbers.{UNEXPECTED}
 use Rattle.reader.specs.Reads.{Outcome, Reads, readOf}
-use Rattle.worked.specs.Worked.{Each, and, Holds, Passes, ReadsAs, Run, bookBytes, table}
+use Rattle.worked.specs.Worked.{Each, and, table}
 use Rattle.worked.proofs.Checked.{worked}
 
 first-of : {A : Type 0} {Of : A → Type 0} {x : A} {xs : List A} → Each Of (x ∷ xs) → Of x

@@ -15,6 +15,7 @@ use Rattle.grammar.specs.Rules.{Productive, p-empty, p-token, p-left, p-right, 
 use Rattle.grammar.specs.Rules.{Nullable, n-empty, n-left, n-right, n-then, n-tagged, n-ref}
 use Rattle.grammar.specs.Rules.{First, f-token, f-left, f-right, f-hold, f-skip, f-tagged, f-ref}
 use Rattle.grammar.specs.Rules.{Snf, s-left, s-right, s-first-left, s-first-right, s-then-left, s-then-right, s-tagged, s-ref}
+use Rattle.rules.specs.Step.{Fact, FactAt}
 use Rattle.rules.proofs.Bounds.{named-below}
 use Rattle.rules.proofs.Least.{Decided, Ruled, decided}
 
@@ -169,18 +170,12 @@ module _ (node : ℕ → Node) (k : ℕ) (t : ℕ → Four) (keeps : (n : ℕ) �
 
 -- ---- all nodes at once
 
--- the four by number, as marks and as facts
+-- the four by number, as the facts are
 abbrev pub markOf : Four → ℕ → Bool
 markOf marks zero = marks .productive
 markOf marks (suc zero) = marks .nullable
 markOf marks (suc (suc zero)) = marks .first
 markOf marks (suc (suc (suc j))) = marks .snf
-
-abbrev pub Fact : (ℕ → Node) → ℕ → Node → ℕ → Type 0
-Fact node k at zero = Productive node at
-Fact node k at (suc zero) = Nullable node at
-Fact node k at (suc (suc zero)) = First node at k
-Fact node k at (suc (suc (suc j))) = Snf node at k
 
 -- the marks of a node, four numbers a node
 abbrev pub marksAt : (ℕ → Bool) → ℕ → Four
@@ -190,10 +185,6 @@ marksAt t n = four (t (4 * n + 0)) (t (4 * n + 1)) (t (4 * n + 2)) (t (4 * n + 3
 unfoldable pub given : (ℕ → Node) → ℕ → (ℕ → Bool) → ℕ → Bool
 given node k t i = markOf (ruled k (marksAt t) (node (i / 4))) (i % 4)
 
--- the fact at a number
-pub record FactAt (node : ℕ → Node) (k i : ℕ) : Type 0 where
-  pub fact : Fact node k (node (i / 4)) (i % 4)
-
 module _ (node : ℕ → Node) (k n j : ℕ) (small : j < 4) where
   own : (4 * n + j) / 4 ≡ n
   own = omega arith
@@ -201,7 +192,7 @@ module _ (node : ℕ → Node) (k n j : ℕ) (small : j < 4) where
   place : (4 * n + j) % 4 ≡ j
   place = omega arith
 
-  pub fact-at : FactAt node k (4 * n + j) ↔ Fact node k (node n) j
+  pub fact-at : FactAt node (4 * n + j) k ↔ Fact node (node n) j k
   fact-at = ((λ f. rw (own, place) at (f .fact)), (λ f. record { fact = rw (own, place) f }))
 
   given-at : (t : ℕ → Bool) → markOf (ruled k (marksAt t) (node n)) j ≡ true → given node k t (4 * n + j) ≡ true
@@ -209,7 +200,7 @@ module _ (node : ℕ → Node) (k n j : ℕ) (small : j < 4) where
   given-at t e = rw (own, place) e
 
 module _ (node : ℕ → Node) (k : ℕ) where
-  sound-number : {at : Node} {marks : Four} → Sound node k at marks → (j : ℕ) → markOf marks j ≡ true → Fact node k at j
+  sound-number : {at : Node} {marks : Four} → Sound node k at marks → (j : ℕ) → markOf marks j ≡ true → Fact node at j k
   sound-number s zero e = s .productive e
   sound-number s (suc zero) e = s .nullable e
   sound-number s (suc (suc zero)) e = s .first e
@@ -222,14 +213,14 @@ module _ (node : ℕ → Node) (k : ℕ) where
   fail-number t (suc (suc zero)) e = never e
   fail-number t (suc (suc (suc j))) e = never e
 
-  has-number : (t : ℕ → Four) → ((n : ℕ) → Keeps (ruled k t (node n)) (t n)) → (at : Node) (j : ℕ) → Fact node k at j
+  has-number : (t : ℕ → Four) → ((n : ℕ) → Keeps (ruled k t (node n)) (t n)) → (at : Node) (j : ℕ) → Fact node at j k
       → markOf (ruled k t at) j ≡ true
   has-number t keeps at zero d = has-productive node k t keeps d
   has-number t keeps at (suc zero) d = has-nullable node k t keeps d
   has-number t keeps at (suc (suc zero)) d = has-first node k t keeps d
   has-number t keeps at (suc (suc (suc j))) d = has-snf node k t keeps d
 
-  sound-at : (t : ℕ → Bool) → ((i : ℕ) → t i ≡ true → FactAt node k i) → (n : ℕ) → Sound node k (node n) (marksAt t n)
+  sound-at : (t : ℕ → Bool) → ((i : ℕ) → t i ≡ true → FactAt node i k) → (n : ℕ) → Sound node k (node n) (marksAt t n)
   sound-at t sound n =
       record {
         productive = λ e. fact-at node k n 0 (omega arith) .0 (sound _ e);
@@ -248,7 +239,7 @@ module _ (node : ℕ → Node) (k : ℕ) where
       }
 
 module _ (book : Book) (wf : WellFormed book) (k : ℕ) where
-  pub facts-ruled : Ruled (FactAt (book .node) k) (4 * book .count) (given (book .node) k)
+  pub facts-ruled : Ruled (λ i. FactAt (book .node) i k) (4 * book .count) (given (book .node) k)
   unfolding given
   facts-ruled =
       record {
@@ -262,10 +253,10 @@ module _ (book : Book) (wf : WellFormed book) (k : ℕ) where
       }
 
   -- the facts of all nodes
-  unfoldable pub facts-decided : Decided (FactAt (book .node) k)
+  unfoldable pub facts-decided : Decided (λ i. FactAt (book .node) i k)
   facts-decided = decided facts-ruled
 
-  unfoldable pub fact-decided : (j : ℕ) → j < 4 → Decided (λ n. Fact (book .node) k (book .node n) j)
+  unfoldable pub fact-decided : (j : ℕ) → j < 4 → Decided (λ n. Fact (book .node) (book .node n) j k)
   fact-decided j small =
       record {
         test = λ n. facts-decided .test (4 * n + j);

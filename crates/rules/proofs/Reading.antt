@@ -46,24 +46,6 @@ kind-below some (then-is l r) = some
 kind-below some (tagged-is l t) = some
 kind-below some (ref-is l) = some
 
--- good nodes are good nodes for 64 kinds
-pub good-for-64 : {bytes : List ℕ} {base count kinds : ℕ} → GoodNodes bytes base count kinds → GoodNodes bytes base count 64
-good-for-64 {bytes} {base} {count} {kinds} good = record {
-  within = good .within;
-  few-nodes = good .few-nodes;
-  few-kinds = omega arith;
-  proper = λ n below. wider (good .proper n below);
-}
-  where
-    wider : {n : ℕ} {at : Node} → Proper kinds count n at → Proper 64 count n at
-    wider fail-is = fail-is
-    wider empty-is = empty-is
-    wider (token-is {k = k} h) = token-is {k = k} (omega (arith, good .few-kinds))
-    wider (either-is l r) = either-is l r
-    wider (then-is l r) = then-is l r
-    wider (tagged-is l t) = tagged-is l t
-    wider (ref-is l) = ref-is l
-
 module _ {bytes : List ℕ} {base count : ℕ} (good : GoodNodes bytes base count 64) {n : ℕ} (below : n < count) {at : Node} (read : at ≡ nodeAt bytes base n) where
   pub node-is : at ≡ nodes bytes base count n
   node-is = read ∙ sym (nodes-below bytes base count n below)

@@ -53,13 +53,6 @@ module _ {node : ℕ → Node} where
   pub conflict-iff : {at : Node} {kind : ℕ} → ConflictAt node at kind → Conflict node at ↔ (kind ≢ NO-CONFLICT)
   conflict-iff answer = ((λ conflict e. answer .none e conflict), (λ some. reported-conflict (answer .some some)))
 
-  pub conflict-dec : {at : Node} {kind : ℕ} → ConflictAt node at kind → Dec (Conflict node at)
-  conflict-dec {at} {kind} answer = go (ℕ-discrete kind NO-CONFLICT)
-    where
-      go : Dec (kind ≡ NO-CONFLICT) → Dec (Conflict node at)
-      go (yes e) = no (answer .none e)
-      go (no f) = yes (conflict-iff answer .1 f)
-
 -- ---- shared kinds
 
 -- the lowest kind of two sets whose kinds are told
@@ -254,13 +247,3 @@ lowest-reached {n = n} reached lowest = record {
   conflict = lowest .conflict;
   least = λ m l reach. lowest .least m l (reached .reach-is m (omega (arith, lowest .within)) .1 reach);
 }
-
--- there is one lowest conflict
-pub lowest-conflict-unique : {node : ℕ → Node} {Among : ℕ → Type 0} {count m n : ℕ} → LowestConflict node Among count m
-    → LowestConflict node Among count n → m ≡ n
-lowest-conflict-unique {node} {Among} {count} {m} {n} p q = go (decLt m n) (decLt n m)
-  where
-    go : Dec (m < n) → Dec (n < m) → m ≡ n
-    go (yes l) d = absurd (q .least m l (p .among (omega (arith, q .within))) (p .conflict (omega (arith, q .within))))
-    go (no f) (yes l) = absurd (p .least n l (q .among (omega (arith, p .within))) (q .conflict (omega (arith, p .within))))
-    go (no f) (no g) = omega arith

@@ -1,11 +1,9 @@
 -- The facts of a book's nodes as sets of kinds, and the reachable nodes as sets of numbers.
 use Prim.Native.Nat.{ℕ, _+_, _*_, _/_, _%_, _<_}
-use mathlib.Core.Bool.{Bool, _&&_}
 use mathlib.Core.List.{List}
 use mathlib.Core.Logic.{_↔_}
-use lib.Dec.{ltb}
 use lib.ListN.{getD}
-use Rattle.kinds.specs.Kinds.{Has, has?}
+use Rattle.kinds.specs.Kinds.{Has}
 use Rattle.book.specs.declared.Node.{Node}
 use Rattle.grammar.specs.Rules.{Productive, Nullable, First, Snf, Reach}
 
@@ -23,10 +21,3 @@ pub record Marked (marks : List ℕ) (n : ℕ) : Type 0 where
 -- the marks have the reachable nodes
 pub record Reached (node : ℕ → Node) (start count : ℕ) (marks : List ℕ) : Type 0 where
   pub reach-is : (n : ℕ) → n < count → Marked marks n ↔ Reach node start n
-
--- whether a kind is in FIRST of a node, and whether a node is nullable, by the table; not beyond the count
-abbrev pub firstMark : List ℕ → ℕ → ℕ → ℕ → Bool
-firstMark table count n k = ltb n count && has? (getD table (4 * n + 2) 0) k
-
-abbrev pub nullMark : List ℕ → ℕ → ℕ → Bool
-nullMark table count n = ltb n count && has? (getD table (4 * n + 1) 0) 0
