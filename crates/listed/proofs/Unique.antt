@@ -12,6 +12,7 @@ use lib.Seq.{take-all}
 use borrow.Author.Tests.{lt-ltb, le-ltb, ltb-false}
 use Rattle.book.specs.Form.{DONE, bookOf}
 use Rattle.book.proofs.Decoded.{formed, well-formed}
+use Rattle.book.proofs.Laws.{form-listed}
 use Rattle.plan.proofs.Laws.{size-small}
 use Rattle.compiler.specs.declared.Compiled.{Compiled}
 use Rattle.compiler.specs.Compiles.{Compiles, PLAN-ROOM, malformed, barren, conflict, no-room, done}
