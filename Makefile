@@ -30,8 +30,11 @@ listing:
 
 # builds one C example against the header and the archive, runs it, and compares what it prints
 run-%: $(EXAMPLES)/%
-	@$< | tee $<.out
+	@$< > $<.out; status=$$?; cat $<.out; exit $$status
 	@diff $<.out host/$*.out
+
+$(ARCHIVE):
+	@$(MAKE) --no-print-directory archive
 
 $(EXAMPLES)/%: host/%.c host/rinse.h host/words.h include/drumbook.h $(ARCHIVE)
 	@mkdir -p $(EXAMPLES)

@@ -15,7 +15,7 @@ pub type Compile = fn(&[u8], &mut [u8]) -> Compiled;
 pub type Read = fn(&[u8], &[u8], &mut [u16], &mut [u16]) -> Reading;
 
 /// The longest book or plan that is lent.
-pub const LONGEST_BYTES: usize = 40_960;
+pub const LONGEST_BYTES: usize = 140_000;
 
 /// The longest run that is lent.
 const LONGEST_RUN: usize = 131_072;

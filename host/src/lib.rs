@@ -24,6 +24,25 @@ mod tests {
     use meaning::{all_runs, Check};
     use read::read;
 
+    /// The header has the numbers of the answers, and the limits.
+    #[test]
+    fn header_numbers() {
+        let header = include_str!("../../include/drumbook.h");
+        let named = |name: &str| -> u32 {
+            let (_, rest) = header.split_once(&format!("DRUMBOOK_{name} = ")).expect(name);
+            let end = rest.find(|c: char| !c.is_ascii_digit()).expect(name);
+            rest[..end].parse().expect(name)
+        };
+        let names = "DONE LENGTH CONTENTS SETTINGS NODE BARREN CONFLICT PLAN_ROOM PLAN_FORM CELL LONG DEEP UNKNOWN UNEXPECTED END RUNAWAY NO_ROOM";
+        for (number, name) in names.split(' ').enumerate() {
+            assert_eq!(named(name), number as u32, "{name}");
+        }
+        assert_eq!(named("BOTH_NULLABLE"), BOTH_NULLABLE);
+        assert_eq!(named("EMPTY_RECORD"), u32::from(EMPTY_RECORD));
+        assert_eq!(named("LARGEST_BOOK"), book::LONGEST_BOOK as u32);
+        assert_eq!(named("LARGEST_PLAN"), book::LONGEST_PLAN as u32);
+    }
+
     /// The large shapes keep to the form of a book.
     #[test]
     fn large_books_are_well_formed() {

@@ -140,6 +140,20 @@ fn large_books() {
     pair.tally.expect(&[DONE, BARREN, CONFLICT, PLAN_ROOM], 100);
 }
 
+/// Plan buffers longer than 16 bits can say.
+#[test]
+fn rooms_beyond_16_bits() {
+    let mut pair = Pair::new();
+    for book in [worked::rinse(), worked::shared_kind()] {
+        for room in [65_535, 65_536, 65_536 + 113, 131_072] {
+            for edge in [Edge::Begin, Edge::End] {
+                pair.compare(&book.bytes(), room, edge);
+            }
+        }
+    }
+    pair.tally.expect(&[DONE, CONFLICT], 8);
+}
+
 /// Books with one or two things damaged.
 #[test]
 fn damaged_books() {

@@ -113,6 +113,38 @@ fn every_length() {
     pair.tally.expect(&[DONE], MOST_NODES);
 }
 
+/// Lengths that 16 bits cannot tell from that of a book.
+#[test]
+fn lengths_beyond_16_bits() {
+    let mut pair = Pair::new();
+    for more in [65_536, 2 * 65_536] {
+        let mut bytes = worked::rinse().bytes();
+        bytes.resize(bytes.len() + more, 0);
+        pair.compare(&bytes);
+    }
+    pair.tally.expect(&[LENGTH], 2);
+}
+
+/// The last node of the largest book, against the table in each way.
+#[test]
+fn last_node_of_the_largest_book() {
+    let mut pair = Pair::new();
+    let last = MOST_NODES as u16 - 1;
+    for bad in [
+        node(REF + 1, 0, 0),
+        node(TOKEN, 1, 0),
+        node(THEN, last, 0),
+        node(EITHER, 0, last),
+        node(TAGGED, 0, 0),
+        node(REF, last + 1, 0),
+    ] {
+        let mut book = worked::doubling();
+        book.nodes[MOST_NODES - 1] = bad;
+        pair.compare(&book.bytes());
+    }
+    pair.tally.expect(&[NODE], 6);
+}
+
 /// All values of each word of a small book, for a node of each type.
 #[test]
 fn every_value_of_each_word() {

@@ -1,7 +1,7 @@
 //! The listing program against the independent rendering of what it must print.
 
 use host::answers::*;
-use host::book::{Book, EITHER, LONGEST_BOOK, TOKEN};
+use host::book::{node, Book, EITHER, LONGEST_BOOK, TAGGED, TOKEN};
 use host::books::inputs::{any_input, input};
 use host::books::limits::{nested_run, nesting, rinse_run};
 use host::books::random::Random;
@@ -159,6 +159,14 @@ fn room_and_slots() {
         &rinse_input(&rinse_run(2_050)),
         Delivery::Whole,
         "refused 16 0 8196\n",
+    );
+    let mut odd = worked::rinse();
+    odd.nodes.push(node(TAGGED, odd.start, 1));
+    odd.start += 1;
+    pair.expect(
+        &input(&odd.bytes(), &rinse_run(2_049)),
+        Delivery::Whole,
+        "refused 16 0 8193\n",
     );
     let nested = |pairs| input(&nesting().bytes(), &nested_run(pairs));
     for pairs in 505..520 {

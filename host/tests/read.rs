@@ -142,6 +142,36 @@ fn plans_beyond_limits() {
     pair.tally.expect(&[PLAN_FORM], 30);
 }
 
+/// Lengths that 16 bits cannot tell from that of a plan.
+#[test]
+fn lengths_beyond_16_bits() {
+    let mut pair = Pair::new();
+    for more in [65_536, 2 * 65_536] {
+        let mut plan = plan_of(&worked::rinse());
+        plan.resize(plan.len() + more, 0);
+        pair.compare(&plan, &[0, 2], 2, 9, Edge::End);
+    }
+    pair.tally.expect(&[PLAN_FORM], 2);
+}
+
+/// The last cells of the largest plan, each against its node's type.
+#[test]
+fn last_cells_of_the_largest_plan() {
+    let mut pair = Pair::new();
+    let book = Book {
+        kinds: MOST_KINDS as u16,
+        start: 0,
+        nodes: vec![node(EMPTY, 0, 0); MOST_NODES],
+    };
+    let cells = MOST_NODES * (MOST_KINDS + 1);
+    for place in [32_767, 32_768, cells - 2, cells - 1] {
+        let mut rows = vec![0; cells];
+        rows[place] = 2;
+        pair.compare(&book.plan(&rows), &[], 1, 1, Edge::End);
+    }
+    pair.tally.expect(&[CELL], 4);
+}
+
 /// Plans of up to 512 nodes and 64 kinds.
 #[test]
 fn large_plans() {

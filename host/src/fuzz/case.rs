@@ -195,20 +195,23 @@ impl Display for Answer {
     }
 }
 
-/// Writes bytes in hexadecimal.
+/// The most numbers of a buffer that are written.
+const SHOWN: usize = 4_096;
+
+/// Writes the first bytes in hexadecimal.
 fn write_bytes(f: &mut Formatter, name: &str, bytes: &[u8]) -> Result {
     write!(f, "  {name} ({} bytes) ", bytes.len())?;
-    for byte in bytes {
+    for byte in bytes.iter().take(SHOWN) {
         write!(f, "{byte:02x}")?;
     }
-    writeln!(f)
+    writeln!(f, "{}", if bytes.len() > SHOWN { ".." } else { "" })
 }
 
-/// Writes 16-bit numbers in hexadecimal.
+/// Writes the first 16-bit numbers in hexadecimal.
 fn write_records(f: &mut Formatter, name: &str, records: &[u16]) -> Result {
     write!(f, "  {name} ({})", records.len())?;
-    for record in records {
+    for record in records.iter().take(SHOWN) {
         write!(f, " {record:04x}")?;
     }
-    writeln!(f)
+    writeln!(f, "{}", if records.len() > SHOWN { " .." } else { "" })
 }
