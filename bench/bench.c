@@ -260,7 +260,7 @@ static void best_times(side *ours, side *theirs, const call c[2], double best[2]
 static void must(int agreed, const char *name)
 {
     if (!agreed) {
-        printf("%s: both sides differ\n", name);
+        fprintf(stderr, "%s: both sides differ\n", name);
         exit(1);
     }
 }

@@ -1,11 +1,11 @@
-/* Compiles the rinse book, reads a lawful run and prints its tree, then says why another is refused. */
+/* Compiles the rinse book, reads a lawful run and prints its tree, then says why others are refused. */
 #include <stdio.h>
 
 #include "drumbook.h"
 #include "rinse.h"
 #include "words.h"
 
-enum { PLAN_BYTES = 114, SLOTS = 16, ROOM = 64, EMPTY_RECORD = 32768 };
+enum { SLOTS = 16, ROOM = 64 };
 
 /* Prints the events of a run. */
 static void print_run(const uint8_t *run, size_t length)
@@ -19,8 +19,8 @@ static void print_run(const uint8_t *run, size_t length)
 static void print_tree(const uint16_t *tree, uint32_t records)
 {
     for (uint32_t i = 0; i < records; i++)
-        printf("  node %u%s\n", (unsigned)(tree[i] % EMPTY_RECORD),
-               tree[i] >= EMPTY_RECORD ? ", empty" : "");
+        printf("  node %u%s\n", (unsigned)(tree[i] % DRUMBOOK_EMPTY_RECORD),
+               tree[i] >= DRUMBOOK_EMPTY_RECORD ? ", empty" : "");
 }
 
 /* Prints the kinds of a set. */
@@ -31,7 +31,31 @@ static void print_kinds(uint64_t set)
             printf(" %u", kind);
 }
 
-/* Reads a run and prints its tree, or the refusal in words. */
+/* Prints a refusal: in words, where, and what the answer tells besides. */
+static void print_refusal(const drumbook_reading *reading)
+{
+    printf(": refused; %s", words(reading->number));
+    switch (reading->number) {
+    case DRUMBOOK_DEEP:
+    case DRUMBOOK_UNKNOWN:
+    case DRUMBOOK_UNEXPECTED:
+    case DRUMBOOK_RUNAWAY:
+        printf(", at event %u", (unsigned)reading->place);
+        break;
+    case DRUMBOOK_NO_ROOM:
+        printf(", of %u records", (unsigned)reading->records);
+        break;
+    default:
+        break;
+    }
+    if (reading->expected != 0) {
+        printf("; expected:");
+        print_kinds(reading->expected);
+    }
+    printf("\n");
+}
+
+/* Reads a run and prints its tree, or the refusal. */
 static uint32_t show(const uint8_t *plan, size_t size, const uint8_t *run, size_t length)
 {
     uint16_t held[SLOTS], tree[ROOM];
@@ -41,18 +65,15 @@ static uint32_t show(const uint8_t *plan, size_t size, const uint8_t *run, size_
         printf(": accepted, %u records\n", (unsigned)reading.records);
         print_tree(tree, reading.records);
     } else {
-        printf(": refused at event %u; %s; expected:", (unsigned)reading.place,
-               words(reading.number));
-        print_kinds(reading.expected);
-        printf("\n");
+        print_refusal(&reading);
     }
     return reading.number;
 }
 
 int main(void)
 {
-    static const uint8_t lawful[] = {0, 1, 2}, unlawful[] = {0, 0};
-    uint8_t plan[PLAN_BYTES];
+    static const uint8_t lawful[] = {0, 1, 2}, unlawful[] = {0, 0}, cut_off[] = {0, 1};
+    static uint8_t plan[DRUMBOOK_LARGEST_PLAN];
     drumbook_compiled compiled = drumbook_compile(rinse, sizeof rinse, plan, sizeof plan);
     printf("the rinse book: %s, a plan of %u bytes\n", words(compiled.number),
            (unsigned)compiled.size);
@@ -60,5 +81,6 @@ int main(void)
         return 1;
     uint32_t accepted = show(plan, compiled.size, lawful, sizeof lawful);
     uint32_t refused = show(plan, compiled.size, unlawful, sizeof unlawful);
-    return accepted == DRUMBOOK_DONE && refused != DRUMBOOK_DONE ? 0 : 1;
+    uint32_t ended = show(plan, compiled.size, cut_off, sizeof cut_off);
+    return accepted == DRUMBOOK_DONE && refused == DRUMBOOK_UNEXPECTED && ended == DRUMBOOK_END ? 0 : 1;
 }

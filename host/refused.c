@@ -4,7 +4,7 @@
 #include "drumbook.h"
 #include "words.h"
 
-enum { BOTH_NULLABLE = 255, PLAN_BYTES = 64 };
+enum { PLAN_BYTES = 64 };
 
 /* Token 0, token 0, either of them. */
 static const uint8_t shared_kind[] = {
@@ -37,7 +37,7 @@ static int show(const char *name, const uint8_t *book, size_t length)
     uint8_t plan[PLAN_BYTES];
     drumbook_compiled compiled = drumbook_compile(book, length, plan, sizeof plan);
     printf("%s: %s, at node %u", name, words(compiled.number), (unsigned)compiled.place);
-    if (compiled.number == DRUMBOOK_CONFLICT && compiled.kind == BOTH_NULLABLE)
+    if (compiled.number == DRUMBOOK_CONFLICT && compiled.kind == DRUMBOOK_BOTH_NULLABLE)
         printf(", where both sides can be empty");
     else if (compiled.number == DRUMBOOK_CONFLICT)
         printf(", where both go on with kind %u", (unsigned)compiled.kind);

@@ -36,7 +36,7 @@ enum {
     DRUMBOOK_LONG = 10,       /* more than 65,535 events */
     DRUMBOOK_DEEP = 11,       /* a part must be held and no slot is free; place: the event, 0 where there is no slot at all */
     DRUMBOOK_UNKNOWN = 12,    /* the event's kind is not below K; place: the event */
-    DRUMBOOK_UNEXPECTED = 13, /* no lawful run goes on so; place: the event */
+    DRUMBOOK_UNEXPECTED = 13, /* the event is refused: by a compiled plan, no lawful run goes on so; place: the event */
     DRUMBOOK_END = 14,        /* the run ends where more was due; place: its length */
     DRUMBOOK_RUNAWAY = 15,    /* N nodes visited at one event and another due, on forged plans only; place: the event */
     DRUMBOOK_NO_ROOM = 16     /* accepted, but more records than the tree buffer holds; see records */
@@ -68,7 +68,7 @@ typedef struct {
 
 /*
  * Compiles a book. With DRUMBOOK_DONE the first size bytes of the plan buffer are the plan and the rest is zero; with any other number
- * the whole buffer is zero. Takes no other memory than its stack.
+ * the whole buffer is zero. Takes some 17 KB of stack (measured on x86-64), and no other memory.
  */
 drumbook_compiled drumbook_compile(const uint8_t *book, size_t book_len, uint8_t *plan, size_t plan_len);
 
@@ -83,7 +83,7 @@ typedef struct {
 /*
  * Reads a run by a plan of exactly plan_len bytes. A run is one byte for each event, its kind. With DRUMBOOK_DONE the first records words
  * of the tree are the derivation, top-down and left to right, a part that takes no event as one empty record, and the rest is zero; with
- * any other number the whole tree is zero. The holding slots are zero after every call.
+ * any other number the whole tree is zero. The holding slots are zero after every call. Takes under 300 bytes of stack, as the form test does.
  */
 drumbook_reading drumbook_read(const uint8_t *plan, size_t plan_len, const uint8_t *run, size_t run_len,
                                uint16_t *held, size_t held_len, uint16_t *tree, size_t tree_len);

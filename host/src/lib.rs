@@ -19,17 +19,21 @@ pub mod worked;
 mod tests {
     use super::*;
     use answers::*;
+    use book::{node, Book, EITHER, EMPTY, THEN, TOKEN};
     use compile::compile;
     use form::form;
     use meaning::{all_runs, Check};
     use read::read;
+    use recognise::Table;
 
     /// The header has the numbers of the answers, and the limits.
     #[test]
     fn header_numbers() {
         let header = include_str!("../../include/drumbook.h");
         let named = |name: &str| -> u32 {
-            let (_, rest) = header.split_once(&format!("DRUMBOOK_{name} = ")).expect(name);
+            let (_, rest) = header
+                .split_once(&format!("DRUMBOOK_{name} = "))
+                .expect(name);
             let end = rest.find(|c: char| !c.is_ascii_digit()).expect(name);
             rest[..end].parse().expect(name)
         };
@@ -81,6 +85,32 @@ mod tests {
     #[test]
     fn worked_meanings() {
         worked::check_recognise();
+    }
+
+    /// A run that is derived in two ways, for each rule of a conflict.
+    #[test]
+    fn two_derivations() {
+        let nodes = [
+            vec![node(EMPTY, 0, 0), node(EMPTY, 0, 0), node(EITHER, 0, 1)],
+            vec![node(TOKEN, 0, 0), node(TOKEN, 0, 0), node(EITHER, 0, 1)],
+            vec![
+                node(TOKEN, 0, 0),
+                node(EMPTY, 0, 0),
+                node(EITHER, 0, 1),
+                node(THEN, 2, 2),
+            ],
+        ];
+        for (nodes, run) in nodes.into_iter().zip([&[][..], &[0], &[0]]) {
+            let start = nodes.len() as u16 - 1;
+            let book = Book {
+                kinds: 1,
+                start,
+                nodes,
+            };
+            assert!(!Table::of(&book, run).only_derivation(), "of {book:?}");
+            let compiled = compile(&book.bytes(), &mut [0; 64]);
+            assert_eq!((compiled.number, compiled.place), (CONFLICT, start.into()));
+        }
     }
 
     /// All books of up to three nodes: compiler and reader against derivations.
