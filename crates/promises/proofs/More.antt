@@ -1,5 +1,5 @@
 -- More slots and more tree room never change an answer other than DEEP and NO ROOM. Of any plan, forged or not.
-use Prim.Native.Nat.{ℕ, zero, suc, _+_, _-_, _^_, _≤_}
+use Prim.Native.Nat.{ℕ, zero, suc, _+_, _-_, _^_, _≤_, _<_}
 use native.Mathlib.Omega.{arith}
 use native.Mathlib.Decide.{decLe, decLt, ℕ-discrete}
 use borrow.Author.Tests.{le-leb, lt-leb}
@@ -42,33 +42,45 @@ module _ (p : Plan) (free : ℕ → Bool) where
   outcome-same size room (end-at i held) = rw (expected-same held)
   outcome-same size room (runaway-at i) = refl
 
-module _ (plan run : List ℕ) (slots room : ℕ) where
-  -- with more slots
-  pub slots-more : (more : ℕ) → slots ≤ more → readOf plan run slots room .reading .number ≢ DEEP
-      → readOf plan run slots room ≡ readOf plan run more room
+-- what decides a reading: the plan's form, the run's length, that there is no slot, or the run
+data Course (plan run : List ℕ) (slots : ℕ) : Type 0 where
+  by-form : (planJudged plan .number ≡ DONE → ⊥) → Course plan run slots
+  by-length : planJudged plan .number ≡ DONE → 65535 < length run → Course plan run slots
+  by-slots : planJudged plan .number ≡ DONE → length run ≤ 65535 → slots ≡ 0 → Course plan run slots
+  by-run : planJudged plan .number ≡ DONE → length run ≤ 65535 → 0 < slots → Course plan run slots
+
+course : (plan run : List ℕ) (slots : ℕ) → Course plan run slots
+course plan run slots =
+    elim (ℕ-discrete (planJudged plan .number) DONE) [
+      | yes good ↦
+          elim (decLe (length run) 65535) [
+            | yes short ↦ elim (decLt 0 slots) [ yes some ↦ by-run good short some | no none ↦ by-slots good short (omega arith) ]
+            | no long ↦ by-length good (omega arith)
+          ]
+      | no bad ↦ by-form bad
+    ]
+
+module _ (plan run : List ℕ) (slots room more : ℕ) (grows : slots ≤ more) (not-deep : readOf plan run slots room .reading .number ≢ DEEP) where
+  slots-by : Course plan run slots → readOf plan run slots room ≡ readOf plan run more room
   unfolding runOf planFrom outcomeOf
-  slots-more more grows not-deep =
-      elim (ℕ-discrete (planJudged plan .number) DONE) [
-        | yes good ↦
-            elim (decLe (length run) 65535) [
-              | yes short ↦
-                  elim (decLt 0 slots) [
-                    | yes some ↦
-                        let own = planOf plan (λ n. ltb n slots) in
-                        let same : reading own run ≡ reading (planOf plan (λ n. ltb n more)) run =
-                        more-slots own run slots more grows
-                        (λ i deep. not-deep (ap (λ (o : Outcome). o .reading .number) (read-runs plan run slots room good short some ∙ ap (outcomeOf own (length run) room) deep)))
-                        in
-                        read-runs plan run slots room good short some
-                        ∙ ap (outcomeOf own (length run) room) same
-                        ∙ outcome-same own (λ n. ltb n more) (length run) room (reading (planOf plan (λ n. ltb n more)) run)
-                        ∙ sym (read-runs plan run more room good short (omega arith))
-                    | no none ↦ absurd (not-deep (ap (λ (o : Outcome). o .reading .number) (read-slotless plan run slots room good short (omega arith))))
-                  ]
-              | no long ↦ read-long plan run slots room good (omega arith) ∙ sym (read-long plan run more room good (omega arith))
-            ]
-        | no bad ↦ read-form plan run slots room bad ∙ sym (read-form plan run more room bad)
-      ]
+  slots-by (by-form bad) = read-form plan run slots room bad ∙ sym (read-form plan run more room bad)
+  slots-by (by-length good long) = read-long plan run slots room good long ∙ sym (read-long plan run more room good long)
+  slots-by (by-slots good short none) =
+      absurd (not-deep (ap (λ (o : Outcome). o .reading .number) (read-slotless plan run slots room good short none)))
+  slots-by (by-run good short some) =
+      let own = planOf plan (λ n. ltb n slots) in
+      let same : reading own run ≡ reading (planOf plan (λ n. ltb n more)) run =
+      more-slots own run slots more grows
+      (λ i deep. not-deep (ap (λ (o : Outcome). o .reading .number) (read-runs plan run slots room good short some ∙ ap (outcomeOf own (length run) room) deep)))
+      in
+      read-runs plan run slots room good short some
+      ∙ ap (outcomeOf own (length run) room) same
+      ∙ outcome-same own (λ n. ltb n more) (length run) room (reading (planOf plan (λ n. ltb n more)) run)
+      ∙ sym (read-runs plan run more room good short (omega arith))
+
+  -- with more slots
+  pub slots-more : readOf plan run slots room ≡ readOf plan run more room
+  slots-more = slots-by (course plan run slots)
 
 -- zeros, with more room
 zeros-more : (n room more : ℕ) → n ≤ room → room ≤ more → zeros (more - n) ≡ zeros (room - n) ++ zeros (more - room)
@@ -105,29 +117,24 @@ module _ (room more : ℕ) (grows : room ≤ more) where
   outcome-wider p size (end-at i held) roomy = bare-wider _
   outcome-wider p size (runaway-at i) roomy = bare-wider _
 
-  -- with more tree room
-  pub room-more : (plan run : List ℕ) (slots : ℕ) → readOf plan run slots room .reading .number ≢ NO-ROOM
-      → readOf plan run slots more ≡ wider room more (readOf plan run slots room)
-  unfolding runOf
-  room-more plan run slots roomy =
-      elim (ℕ-discrete (planJudged plan .number) DONE) [
-        | yes good ↦
-            elim (decLe (length run) 65535) [
-              | yes short ↦
-                  elim (decLt 0 slots) [
-                    | yes some ↦
-                        let here = read-runs plan run slots room good short some in
-                        read-runs plan run slots more good short some
-                        ∙ outcome-wider (planOf plan (λ n. ltb n slots)) (length run) (reading (planOf plan (λ n. ltb n slots)) run)
-                        (λ e. roomy (ap (λ (o : Outcome). o .reading .number) here ∙ e))
-                        ∙ ap (wider room more) (sym here)
-                    | no none ↦ both (read-slotless plan run slots more good short (omega arith)) (read-slotless plan run slots room good short (omega arith))
-                  ]
-              | no long ↦ both (read-long plan run slots more good (omega arith)) (read-long plan run slots room good (omega arith))
-            ]
-        | no bad ↦ both (read-form plan run slots more bad) (read-form plan run slots room bad)
-      ]
-    where
-      both : {r : Reading} → readOf plan run slots more ≡ bare more r → readOf plan run slots room ≡ bare room r
-          → readOf plan run slots more ≡ wider room more (readOf plan run slots room)
-      both {r} e f = e ∙ bare-wider r ∙ ap (wider room more) (sym f)
+  module _ (plan run : List ℕ) (slots : ℕ) (roomy : readOf plan run slots room .reading .number ≢ NO-ROOM) where
+    both-bare : {r : Reading} → readOf plan run slots more ≡ bare more r → readOf plan run slots room ≡ bare room r
+        → readOf plan run slots more ≡ wider room more (readOf plan run slots room)
+    both-bare {r} e f = e ∙ bare-wider r ∙ ap (wider room more) (sym f)
+
+    room-by : Course plan run slots → readOf plan run slots more ≡ wider room more (readOf plan run slots room)
+    unfolding runOf
+    room-by (by-form bad) = both-bare (read-form plan run slots more bad) (read-form plan run slots room bad)
+    room-by (by-length good long) = both-bare (read-long plan run slots more good long) (read-long plan run slots room good long)
+    room-by (by-slots good short none) =
+        both-bare (read-slotless plan run slots more good short none) (read-slotless plan run slots room good short none)
+    room-by (by-run good short some) =
+        let here = read-runs plan run slots room good short some in
+        read-runs plan run slots more good short some
+        ∙ outcome-wider (planOf plan (λ n. ltb n slots)) (length run) (reading (planOf plan (λ n. ltb n slots)) run)
+        (λ e. roomy (ap (λ (o : Outcome). o .reading .number) here ∙ e))
+        ∙ ap (wider room more) (sym here)
+
+    -- with more tree room
+    pub room-more : readOf plan run slots more ≡ wider room more (readOf plan run slots room)
+    room-more = room-by (course plan run slots)

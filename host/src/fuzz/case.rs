@@ -4,7 +4,7 @@ use crate::answers::{INPUT_TOO_LONG, INPUT_TOO_SHORT};
 use crate::calls::*;
 use crate::listing::{listing, TOO_LONG, TOO_SHORT};
 use crate::program::{Delivery, Printed, Program};
-use std::fmt::{Display, Formatter, Result};
+use std::fmt::{Display, Formatter, LowerHex, Result};
 
 /// The calls by name.
 #[derive(Clone, Copy, Debug, PartialEq, Eq)]
@@ -179,12 +179,12 @@ impl Display for Answer {
             Answer::Form(formed) => writeln!(f, "{formed:?}"),
             Answer::Compile(compiled, plan) => {
                 writeln!(f, "{compiled:?}")?;
-                write_bytes(f, "plan", plan)
+                write_buffer(f, "plan", plan)
             }
             Answer::Read(reading, held, tree) => {
                 writeln!(f, "{reading:?}")?;
-                write_records(f, "held", held)?;
-                write_records(f, "tree", tree)
+                write_buffer(f, "held", held)?;
+                write_buffer(f, "tree", tree)
             }
             Answer::Listing(Printed { output, status }) => {
                 let text = String::from_utf8_lossy(output);
@@ -195,23 +195,23 @@ impl Display for Answer {
     }
 }
 
-/// The most numbers of a buffer that are written.
-const SHOWN: usize = 4_096;
-
-/// Writes the first bytes in hexadecimal.
+/// Writes bytes in hexadecimal.
 fn write_bytes(f: &mut Formatter, name: &str, bytes: &[u8]) -> Result {
     write!(f, "  {name} ({} bytes) ", bytes.len())?;
-    for byte in bytes.iter().take(SHOWN) {
+    for byte in bytes {
         write!(f, "{byte:02x}")?;
     }
-    writeln!(f, "{}", if bytes.len() > SHOWN { ".." } else { "" })
+    writeln!(f)
 }
 
-/// Writes the first 16-bit numbers in hexadecimal.
-fn write_records(f: &mut Formatter, name: &str, records: &[u16]) -> Result {
-    write!(f, "  {name} ({})", records.len())?;
-    for record in records.iter().take(SHOWN) {
-        write!(f, " {record:04x}")?;
+/// Writes a buffer's numbers in hexadecimal, those that are the same in a row once, with their count.
+fn write_buffer<T: LowerHex + PartialEq>(f: &mut Formatter, name: &str, buffer: &[T]) -> Result {
+    write!(f, "  {name} ({})", buffer.len())?;
+    for same in buffer.chunk_by(|a, b| a == b) {
+        write!(f, " {:x}", same[0])?;
+        if same.len() > 1 {
+            write!(f, "*{}", same.len())?;
+        }
     }
-    writeln!(f, "{}", if records.len() > SHOWN { " .." } else { "" })
+    writeln!(f)
 }
