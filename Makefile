@@ -1,60 +1,123 @@
-# drumbook: `make run` shows it at work, `make test` is the whole gate.
+# drumbook: `make run` shows it at work, `make test` is the whole gate, `make help` lists the rest.
 CC ?= cc
 CFLAGS ?= -O2
-WARNINGS = -std=c11 -Wall -Wextra -Werror
-ARCHIVE = target/staticlib/libdrumbook.a
-EXAMPLES = target/examples
 PREFIX ?= /usr/local
 SECONDS ?= 60
-VERSION = 0.1.0
+PYTHON ?= python3
 
-.PHONY: run test archive listing bench fuzz install clean
+WARNINGS = -std=c11 -Wall -Wextra -Werror
+
+# the version has one source, the header's three numbers; while the major number is 0 a new minor one may change calls
+# and structs, so the shared library's name has both
+header_number = $(shell sed -nE 's/^.define DRUMBOOK_VERSION_$(1) ([0-9]+)$$/\1/p' include/drumbook.h)
+MAJOR := $(call header_number,MAJOR)
+MINOR := $(call header_number,MINOR)
+VERSION := $(MAJOR).$(MINOR).$(call header_number,PATCH)
+
+ARCHIVE = target/staticlib/libdrumbook.a
+LISTING = target/bin/listing
+SONAME = libdrumbook.so.$(MAJOR).$(MINOR)
+SHARED = target/shared/libdrumbook.so.$(VERSION)
+EXAMPLES = target/examples
+
+# what a crate's proof and code come from, folders too, so that a file taken away is noticed
+folders = $(addprefix crates/,$(shell scripts/uses $(1)))
+sources = crates.txt $(shell find $(call folders,$(1)) -name must-fail -prune -o -print)
+
+export CC PREFIX DESTDIR VERSION SONAME
+
+.PHONY: run run-python stack test archive shared listing bench fuzz faults census
+.PHONY: prefix current install install-shared uninstall clean help
+.NOTPARALLEL:
 .SECONDARY:
+.DELETE_ON_ERROR:
 
-# the listing program on the rinse book and the run 0 1 2
-run: listing
-	@target/bin/listing < crates/listing/stdin
+## run: the listing program on the rinse book and the run 0 1 2
+run: $(LISTING)
+	@$(LISTING) < crates/listing/stdin
 
+## run-example: compile a book from C, read runs, print a tree and refusals (run-form, run-refused: two more)
+run-%: $(EXAMPLES)/%
+	@scripts/same host/$*.out $<
+
+## run-python: the same from Python, by the shared library
+run-python: $(SHARED)
+	@scripts/same host/python.out $(PYTHON) host/python.py target/shared/libdrumbook.so
+
+## stack: how much stack each call takes, held to bounds
+stack: $(EXAMPLES)/stack
+	@$<
+
+## test: the gate: proves every crate, tries the must-fail edits, runs the host tests
 test:
 	@scripts/gate
 
-# proves the library and writes the archive that C and Rust link
-archive:
-	@mkdir -p target
-	@rt staticlib drumbook > target/archive.log 2>&1 || { cat target/archive.log; exit 1; }
+## archive: target/staticlib/libdrumbook.a, proved; links into C and Rust
+archive: $(ARCHIVE)
 
-# proves the listing program and builds it
-listing:
-	@mkdir -p target
-	@rt check listing > target/listing.log 2>&1 || { cat target/listing.log; exit 1; }
+## shared: target/shared/libdrumbook.so, the same code as a shared library
+shared: $(SHARED)
 
-# builds one C example against the header and the archive, runs it, and compares what it prints
-run-%: $(EXAMPLES)/%
-	@$< > $<.out; status=$$?; cat $<.out; exit $$status
-	@diff $<.out host/$*.out
+## listing: target/bin/listing, the proved listing program
+listing: $(LISTING)
 
-$(ARCHIVE):
-	@$(MAKE) --no-print-directory archive
+$(ARCHIVE): $(call sources,drumbook)
+	@scripts/prove staticlib drumbook
+	@touch $@
+
+$(LISTING): $(call sources,listing)
+	@scripts/prove check listing
+	@touch $@
+
+$(SHARED): $(ARCHIVE) include/drumbook.h scripts/shared
+	@scripts/shared $(ARCHIVE) $@
 
 $(EXAMPLES)/%: host/%.c host/rinse.h host/words.h include/drumbook.h $(ARCHIVE)
 	@mkdir -p $(EXAMPLES)
 	@$(CC) $(CFLAGS) $(WARNINGS) -Iinclude $< $(ARCHIVE) -o $@
 
-# measures the archive against the plain C compiler and reader of bench/, and writes docs/BENCHMARKS.md
-bench: archive
-	@CC=$(CC) scripts/bench
+## bench: measures against a plain C implementation, and writes docs/BENCHMARKS.md
+bench: $(ARCHIVE)
+	@scripts/bench
 
-# random and damaged inputs against the independent implementations; prints the seed, and at a failure the smallest failing input
-fuzz: archive listing
-	@CARGO_TARGET_DIR=$(CURDIR)/target/host cargo run --quiet --offline --manifest-path host/Cargo.toml --bin fuzz -- --seconds $(SECONDS) $(if $(SEED),--seed $(SEED))
+## fuzz: random and damaged inputs against independent implementations (SECONDS=60, SEED=..)
+fuzz: $(ARCHIVE) $(LISTING)
+	@CARGO_TARGET_DIR=$(CURDIR)/target/host cargo run --quiet --offline --manifest-path host/Cargo.toml --bin fuzz -- \
+		--seconds $(SECONDS) $(if $(SEED),--seed $(SEED))
 
-# the header, the archive and a pkg-config file, below PREFIX
-install: archive
-	install -d $(DESTDIR)$(PREFIX)/include $(DESTDIR)$(PREFIX)/lib/pkgconfig
-	install -m 644 include/drumbook.h $(DESTDIR)$(PREFIX)/include/
-	install -m 644 $(ARCHIVE) $(DESTDIR)$(PREFIX)/lib/
-	printf 'prefix=%s\n\nName: drumbook\nDescription: Proved compiler of grammar books and reader of runs\nVersion: %s\nCflags: -I$${prefix}/include\nLibs: -L$${prefix}/lib -ldrumbook\n' \
-		'$(PREFIX)' '$(VERSION)' > $(DESTDIR)$(PREFIX)/lib/pkgconfig/drumbook.pc
+## faults: puts faults between the archive and its tests, and says which test catches each; takes minutes
+faults: $(ARCHIVE) $(LISTING)
+	@scripts/faults
 
+## census: lines and check times by crate, what must be read, laws that nothing rests on, must-fail edits
+census:
+	@scripts/census
+
+## install: the header, the archive and a pkg-config file, below PREFIX (default /usr/local)
+install: prefix current $(ARCHIVE)
+	@scripts/install static
+
+## install-shared: the shared library, below PREFIX
+install-shared: prefix current $(SHARED)
+	@scripts/install shared
+
+## uninstall: takes away what install and install-shared put below PREFIX
+uninstall: prefix
+	@scripts/install remove
+
+# refuses a PREFIX that cannot be served, before anything is made
+prefix:
+	@scripts/install prefix
+
+# refuses to prove under sudo: the archive is made as the user who asked for it
+current:
+	@if [ -n "$${SUDO_USER:-}" ] && ! $(MAKE) --no-print-directory --question archive; then \
+		echo "the archive is older than its sources or missing: run 'make archive' without sudo first" >&2; exit 1; fi
+
+## clean: removes all that was built
 clean:
 	rm -rf target
+
+## help: these lines
+help:
+	@sed -nE 's/^## ([a-z-]+): (.*)/make \1\t\2/p' Makefile | expand -t 22

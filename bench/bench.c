@@ -1,4 +1,7 @@
-/* Measures drumbook against a plain C compiler and reader of the same documents, in one run. */
+/*
+ * Measures drumbook against a plain C compiler and reader of the same documents, in one run. The C code is there in several
+ * builds, by different compilers, named by the file BUILDS in lines BUILD(name, "label"); each row shows the fastest of them.
+ */
 #define _POSIX_C_SOURCE 199309L
 #include <stdio.h>
 #include <stdlib.h>
@@ -6,7 +9,6 @@
 #include <time.h>
 
 #include "drumbook.h"
-#include "reference.h"
 
 enum { FAIL, EMPTY, TOKEN, EITHER, THEN, TAGGED, REF };
 
@@ -37,23 +39,49 @@ typedef struct {
     size_t length;
 } run;
 
-/* A call's input, and what it needs for its answers: one set for each side. */
+typedef drumbook_compiled compiler(const uint8_t *, size_t, uint8_t *, size_t);
+typedef drumbook_reading reader(const uint8_t *, size_t, const uint8_t *, size_t, uint16_t *, size_t, uint16_t *, size_t);
+
+/* A compiler and a reader of one build. */
+typedef struct {
+    const char *label;
+    compiler *compiles;
+    reader *reads;
+} build;
+
+/* The builds of the C code: their functions, and all of them. */
+#define BUILD(name, label) compiler name##_compile; reader name##_read;
+#include BUILDS
+#undef BUILD
+#define BUILD(name, label) {label, name##_compile, name##_read},
+static const build builds[] = {
+    {"drumbook", drumbook_compile, drumbook_read},
+#include BUILDS
+};
+
+enum { SIDES = sizeof builds / sizeof *builds };
+
+/* A call's input, and what it needs for its answers. */
 typedef struct {
     const uint8_t *book, *plan;
     size_t book_len, plan_len;
     const run *events;
     size_t slots, room;
-    uint8_t *made;
-    uint16_t *held, *tree;
 } call;
 
-/* One side's way to make a call. */
-typedef void side(const call *c);
+/* One build's way to make a call. */
+typedef void way(const build *side, const call *c);
+
+/* The best times of a row: the library's, the best of the C builds, and which build that is. */
+typedef struct {
+    double ours, theirs;
+    const char *label;
+} times;
 
 static book current;
 static run events;
-static uint8_t plan[MOST_PLAN], made[2][MOST_PLAN];
-static uint16_t held[2][MOST_SLOTS], tree[2][MOST_ROOM];
+static uint8_t plan[MOST_PLAN], made[MOST_PLAN], wanted[MOST_PLAN];
+static uint16_t held[MOST_SLOTS], tree[MOST_ROOM], wanted_held[MOST_SLOTS], wanted_tree[MOST_ROOM];
 
 /* Writes a 16-bit number, low byte first. */
 static void put(uint8_t *p, size_t value)
@@ -171,11 +199,11 @@ static void rinse_run(size_t length)
     events.length = length;
 }
 
-/* A run of the process: as many times as fit, each step with two of its other events. */
-static void process_run(size_t steps, size_t kinds)
+/* A run of the process of at most so many events: as many times as fit, each step with two of its other events. */
+static void process_run(size_t steps, size_t kinds, size_t most)
 {
     size_t length = 0;
-    while (length + 3 * steps <= MOST_EVENTS)
+    while (length + 3 * steps <= most)
         for (size_t i = 0; i < steps; i++) {
             events.events[length++] = (uint8_t)(2 * i % kinds);
             events.events[length++] = (uint8_t)((2 * i + 1) % kinds);
@@ -199,30 +227,16 @@ static void even_run(size_t length)
     events.length = length;
 }
 
-/* Compiles by drumbook. */
-static void drumbook_compiles(const call *c)
+/* Compiles. */
+static void compiles(const build *side, const call *c)
 {
-    drumbook_compile(c->book, c->book_len, c->made, c->plan_len);
+    side->compiles(c->book, c->book_len, made, c->plan_len);
 }
 
-/* Compiles by the reference. */
-static void reference_compiles(const call *c)
+/* Reads. */
+static void reads(const build *side, const call *c)
 {
-    reference_compile(c->book, c->book_len, c->made, c->plan_len);
-}
-
-/* Reads by drumbook. */
-static void drumbook_reads(const call *c)
-{
-    drumbook_read(c->plan, c->plan_len, c->events->events, c->events->length,
-                  c->held, c->slots, c->tree, c->room);
-}
-
-/* Reads by the reference. */
-static void reference_reads(const call *c)
-{
-    reference_read(c->plan, c->plan_len, c->events->events, c->events->length,
-                   c->held, c->slots, c->tree, c->room);
+    side->reads(c->plan, c->plan_len, c->events->events, c->events->length, held, c->slots, tree, c->room);
 }
 
 /* The time in nanoseconds. */
@@ -234,87 +248,109 @@ static double now(void)
 }
 
 /* The time of one of so many calls. */
-static double timed(side *make, const call *c, size_t times)
+static double timed(way *make, const build *side, const call *c, size_t count)
 {
     double before = now();
-    for (size_t i = 0; i < times; i++)
-        make(c);
-    return (now() - before) / (double)times;
+    for (size_t i = 0; i < count; i++)
+        make(side, c);
+    return (now() - before) / (double)count;
 }
 
-/* The best times of both sides, sampled in turn. */
-static void best_times(side *ours, side *theirs, const call c[2], double best[2])
+/* The best times of all builds, sampled in turn. */
+static times best_times(way *make, const call *c)
 {
-    side *sides[] = {ours, theirs};
-    for (size_t s = 0; s < 2; s++)
-        best[s] = timed(sides[s], &c[s], 1);
+    double best[SIDES];
+    for (size_t s = 0; s < SIDES; s++)
+        best[s] = timed(make, &builds[s], c, 1);
     for (size_t sample = 0; sample < SAMPLES; sample++)
-        for (size_t s = 0; s < 2; s++) {
-            double t = timed(sides[s], &c[s], 1 + (size_t)(SAMPLE_NS / best[s]));
+        for (size_t s = 0; s < SIDES; s++) {
+            double t = timed(make, &builds[s], c, 1 + (size_t)(SAMPLE_NS / best[s]));
             if (t < best[s])
                 best[s] = t;
         }
+    size_t fastest = 1;
+    for (size_t s = 2; s < SIDES; s++)
+        if (best[s] < best[fastest])
+            fastest = s;
+    return (times){best[0], best[fastest], builds[fastest].label};
 }
 
-/* Ends the program where both sides differ. */
-static void must(int agreed, const char *name)
+/* Ends the program where a build differs from the others. */
+static void must(int agreed, const char *name, const build *side)
 {
     if (!agreed) {
-        fprintf(stderr, "%s: both sides differ\n", name);
+        fprintf(stderr, "%s: %s differs\n", name, side->label);
         exit(1);
     }
 }
 
-/* Prints the columns that all rows have. */
-static void print_row(const char *name, const double best[2])
+/* Prints a row; a count of 0 has no column. */
+static void print_row(const char *name, times best, size_t per_event, size_t per_record)
 {
-    printf("%-42s %12.0f %12.0f %7.2f", name, best[0], best[1], best[0] / best[1]);
+    printf("%-41s %9.0f %9.0f %6.2f", name, best.ours, best.theirs, best.ours / best.theirs);
+    size_t counts[] = {per_event, per_record};
+    for (size_t i = 0; i < 2; i++)
+        if (counts[i] == 0)
+            printf(" %9s", "-");
+        else
+            printf(" %9.2f", best.ours / (double)counts[i]);
+    printf("  %s\n", best.label);
 }
 
 /* Compares and measures compiling the current book. */
 static void compile_row(const char *name, size_t length)
 {
-    double best[2];
-    memset(made, GARBAGE, sizeof made);
-    drumbook_compiled d = drumbook_compile(current.bytes, length, made[0], MOST_PLAN);
-    reference_compiled r = reference_compile(current.bytes, length, made[1], MOST_PLAN);
-    must(d.number == DONE && r.number == DONE, name);
-    must(d.place == r.place && d.kind == r.kind && d.size == r.size, name);
-    must(memcmp(made[0], made[1], MOST_PLAN) == 0, name);
+    memset(wanted, GARBAGE, sizeof wanted);
+    drumbook_compiled d = drumbook_compile(current.bytes, length, wanted, MOST_PLAN);
+    for (size_t s = 0; s < SIDES; s++) {
+        memset(made, GARBAGE, sizeof made);
+        drumbook_compiled r = builds[s].compiles(current.bytes, length, made, MOST_PLAN);
+        must(r.number == DONE && memcmp(&d, &r, sizeof d) == 0, name, &builds[s]);
+        must(memcmp(made, wanted, MOST_PLAN) == 0, name, &builds[s]);
+    }
     call c = {.book = current.bytes, .book_len = length, .plan_len = d.size};
-    call both[] = {c, c};
-    both[0].made = made[0];
-    both[1].made = made[1];
-    best_times(drumbook_compiles, reference_compiles, both, best);
-    print_row(name, best);
-    printf("%11s %11s\n", "-", "-");
+    print_row(name, best_times(compiles, &c), 0, 0);
+}
+
+/* Compares all builds on a call of the reader; the library's answer, which has this number. */
+static drumbook_reading compared(const char *name, const call *c, uint32_t number)
+{
+    drumbook_reading d = {0, 0, 0, 0};
+    for (size_t s = 0; s < SIDES; s++) {
+        memset(held, GARBAGE, sizeof held);
+        memset(tree, GARBAGE, sizeof tree);
+        drumbook_reading r = builds[s].reads(c->plan, c->plan_len, c->events->events, c->events->length,
+                                             held, c->slots, tree, c->room);
+        if (s == 0) {
+            d = r;
+            memcpy(wanted_held, held, sizeof held);
+            memcpy(wanted_tree, tree, sizeof tree);
+        }
+        must(r.number == number && r.place == d.place, name, &builds[s]);
+        must(r.records == d.records && r.expected == d.expected, name, &builds[s]);
+        must(memcmp(tree, wanted_tree, sizeof tree) == 0, name, &builds[s]);
+        must(memcmp(held, wanted_held, sizeof held) == 0, name, &builds[s]);
+    }
+    return d;
 }
 
 /* Compares and measures reading the current run by the current book's plan. */
 static void read_row(const char *name, size_t length, size_t slots)
 {
-    double best[2];
-    size_t size = reference_compile(current.bytes, length, plan, MOST_PLAN).size;
+    size_t size = drumbook_compile(current.bytes, length, plan, MOST_PLAN).size;
     call c = {.plan = plan, .plan_len = size, .events = &events, .slots = slots, .room = MOST_ROOM};
-    memset(held, GARBAGE, sizeof held);
-    memset(tree, GARBAGE, sizeof tree);
-    drumbook_reading d = drumbook_read(plan, size, events.events, events.length,
-                                       held[0], slots, tree[0], MOST_ROOM);
-    reference_reading r = reference_read(plan, size, events.events, events.length,
-                                         held[1], slots, tree[1], MOST_ROOM);
-    must(d.number == DONE && r.number == DONE && d.place == r.place, name);
-    must(d.records == r.records && d.expected == r.expected, name);
-    must(memcmp(tree[0], tree[1], sizeof tree[0]) == 0, name);
-    must(memcmp(held[0], held[1], slots * sizeof held[0][0]) == 0, name);
-    c.room = d.records;
-    call both[] = {c, c};
-    for (size_t s = 0; s < 2; s++) {
-        both[s].held = held[s];
-        both[s].tree = tree[s];
-    }
-    best_times(drumbook_reads, reference_reads, both, best);
-    print_row(name, best);
-    printf("%11.2f %11.2f\n", best[0] / (double)events.length, best[0] / (double)d.records);
+    c.room = compared(name, &c, DONE).records;
+    print_row(name, best_times(reads, &c), events.length, c.room);
+}
+
+/* Compares and measures the test of the current book's plan: a reading with no slot, which ends after it. */
+static void test_row(const char *name, size_t length)
+{
+    size_t size = drumbook_compile(current.bytes, length, plan, MOST_PLAN).size;
+    call c = {.plan = plan, .plan_len = size, .events = &events, .slots = 0, .room = 0};
+    events.length = 0;
+    compared(name, &c, DRUMBOOK_DEEP);
+    print_row(name, best_times(reads, &c), 0, 0);
 }
 
 /* Measures compiling. */
@@ -328,6 +364,14 @@ static void compile_rows(void)
     compile_row("compile, refs upward, 512 nodes", chain(512));
 }
 
+/* Measures the test of a plan. */
+static void test_rows(void)
+{
+    test_row("plan's test alone, rinse book", rinse());
+    test_row("plan's test alone, 64 nodes, 14 kinds", process(7, 14, 64));
+    test_row("plan's test alone, 512 nodes, 64 kinds", process(63, 64, 512));
+}
+
 /* Measures reading. */
 static void read_rows(void)
 {
@@ -335,9 +379,11 @@ static void read_rows(void)
     read_row("read, rinse book, 3 events", rinse(), 2);
     rinse_run(MOST_EVENTS);
     read_row("read, rinse book, 65535 events", rinse(), 2);
-    process_run(7, 14);
+    process_run(7, 14, MOST_EVENTS);
     read_row("read, process, 64 nodes, 65520 events", process(7, 14, 64), 16);
-    process_run(63, 64);
+    process_run(63, 64, 3 * 63);
+    read_row("read, process, 512 nodes, 189 events", process(63, 64, 512), 16);
+    process_run(63, 64, MOST_EVENTS);
     read_row("read, process, 512 nodes, 65394 events", process(63, 64, 512), 16);
     nesting_run(32767);
     read_row("read, nesting, 65534 events", nesting(), MOST_SLOTS);
@@ -347,9 +393,10 @@ static void read_rows(void)
 
 int main(void)
 {
-    printf("%-42s %12s %12s %7s %11s %10s\n", "best of many, clearing included", "drumbook ns",
-           "C ns", "ratio", "ns/event", "ns/record");
+    printf("%-41s %9s %9s %6s %9s %9s  %s\n", "best of many, clearing included", "ours, ns", "C, ns", "ratio",
+           "ns/event", "ns/record", "C by");
     compile_rows();
+    test_rows();
     read_rows();
     return 0;
 }

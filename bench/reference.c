@@ -335,25 +335,35 @@ static bool plan_form(const uint8_t *plan, size_t len, book *b)
     return settings_proper(b) && words_are(plan, contents, 10) && improper(b) == b->count;
 }
 
-/* Whether a node of this type can have this kind cell. */
-static bool cell_proper(uint16_t form, uint8_t c)
+/* Whether a cell is 0 or one of two. */
+static bool cell_proper(uint8_t cell, uint8_t one, uint8_t other)
 {
-    static const uint8_t allowed[] = {
-        1, 1, 1 | 1 << TAKE, 1 | 1 << GO_LEFT | 1 << GO_RIGHT,
-        1 | 1 << HOLD_RIGHT | 1 << SKIP_LEFT, 1 | 1 << GO_LEFT, 1 | 1 << GO_LEFT};
-    return c <= GO_RIGHT && (allowed[form] >> c & 1);
+    return cell == 0 || cell == one || cell == other;
+}
+
+/* Whether the kind cells of a row are all 0 or one of two: judged whole, so that a compiler can take many at a time. */
+static bool row_proper(const uint8_t *cells, size_t kinds, uint8_t one, uint8_t other)
+{
+    uint8_t bad = 0;
+    for (size_t kind = 0; kind < kinds; kind++)
+        bad |= (uint8_t)((cells[kind] != 0) & (cells[kind] != one) & (cells[kind] != other));
+    return bad == 0;
 }
 
 /* The first cell against its node's type, or the number of cells. */
 static size_t improper_cell(const book *b, const uint8_t *cells)
 {
+    static const uint8_t ones[] = {0, 0, TAKE, GO_LEFT, HOLD_RIGHT, GO_LEFT, GO_LEFT};
+    static const uint8_t others[] = {0, 0, TAKE, GO_RIGHT, SKIP_LEFT, GO_LEFT, GO_LEFT};
     size_t width = b->kinds + 1;
     for (size_t n = 0; n < b->count; n++) {
+        const uint8_t *own = cells + n * width;
         uint16_t form = node_at(b, n).form;
-        for (size_t kind = 0; kind < b->kinds; kind++)
-            if (!cell_proper(form, cells[n * width + kind]))
-                return n * width + kind;
-        if (cells[n * width + b->kinds] > 1)
+        if (!row_proper(own, b->kinds, ones[form], others[form]))
+            for (size_t kind = 0; kind < b->kinds; kind++)
+                if (!cell_proper(own[kind], ones[form], others[form]))
+                    return n * width + kind;
+        if (own[b->kinds] > 1)
             return n * width + b->kinds;
     }
     return b->count * width;

@@ -1,13 +1,15 @@
-/* A plain C compiler and reader of document 01, to measure against. */
+/*
+ * A plain C compiler and reader of document 01, to measure against. They answer in the structs of the library's header,
+ * so that all builds are called alike.
+ */
 #ifndef REFERENCE_H
 #define REFERENCE_H
 
-#include <stddef.h>
-#include <stdint.h>
+#include "drumbook.h"
 
-typedef struct { uint32_t number, place; } reference_formed;
-typedef struct { uint32_t number, place, kind, size; } reference_compiled;
-typedef struct { uint32_t number, place, records; uint64_t expected; } reference_reading;
+typedef drumbook_formed reference_formed;
+typedef drumbook_compiled reference_compiled;
+typedef drumbook_reading reference_reading;
 
 /* Judges the form of a book. */
 reference_formed reference_form(const uint8_t *book, size_t book_len);

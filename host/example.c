@@ -1,4 +1,7 @@
-/* Compiles the rinse book, reads a lawful run and prints its tree, then says why others are refused. */
+/*
+ * Asks how long the rinse book's plan is and compiles it; reads a lawful run and prints its tree; says why others are
+ * refused, and which runs are accepted at all.
+ */
 #include <stdio.h>
 
 #include "drumbook.h"
@@ -70,10 +73,36 @@ static uint32_t show(const uint8_t *plan, size_t size, const uint8_t *run, size_
     return reading.number;
 }
 
+/* How long a book's plan is, asked with no buffer: a book that passes answers PLAN ROOM with the size, others say 0. */
+static uint32_t plan_size(const uint8_t *book, size_t length)
+{
+    return drumbook_compile(book, length, NULL, 0).size;
+}
+
+/* How many records an accepted run has, asked with no tree: NO ROOM says accepted; 0 where the run is refused. */
+static uint32_t records(const uint8_t *plan, size_t size, const uint8_t *run, size_t length)
+{
+    uint16_t held[SLOTS];
+    drumbook_reading reading = drumbook_read(plan, size, run, length, held, SLOTS, NULL, 0);
+    return reading.number == DRUMBOOK_NO_ROOM ? reading.records : 0;
+}
+
+/* Says whether a run is accepted, without a tree. */
+static void judge(const uint8_t *plan, size_t size, const uint8_t *run, size_t length)
+{
+    uint32_t count = records(plan, size, run, length);
+    print_run(run, length);
+    if (count != 0)
+        printf(": accepted, a tree would have %u records\n", (unsigned)count);
+    else
+        printf(": refused\n");
+}
+
 int main(void)
 {
     static const uint8_t lawful[] = {0, 1, 2}, unlawful[] = {0, 0}, cut_off[] = {0, 1};
     static uint8_t plan[DRUMBOOK_LARGEST_PLAN];
+    printf("the rinse book's plan takes %u bytes\n", (unsigned)plan_size(rinse, sizeof rinse));
     drumbook_compiled compiled = drumbook_compile(rinse, sizeof rinse, plan, sizeof plan);
     printf("the rinse book: %s, a plan of %u bytes\n", words(compiled.number),
            (unsigned)compiled.size);
@@ -82,5 +111,8 @@ int main(void)
     uint32_t accepted = show(plan, compiled.size, lawful, sizeof lawful);
     uint32_t refused = show(plan, compiled.size, unlawful, sizeof unlawful);
     uint32_t ended = show(plan, compiled.size, cut_off, sizeof cut_off);
-    return accepted == DRUMBOOK_DONE && refused == DRUMBOOK_UNEXPECTED && ended == DRUMBOOK_END ? 0 : 1;
+    judge(plan, compiled.size, lawful, sizeof lawful);
+    judge(plan, compiled.size, unlawful, sizeof unlawful);
+    int as_due = accepted == DRUMBOOK_DONE && refused == DRUMBOOK_UNEXPECTED && ended == DRUMBOOK_END;
+    return as_due ? 0 : 1;
 }

@@ -1,10 +1,10 @@
-/* Compiles books that are refused, and says where and for which kind. */
+/* Compiles books that are refused, says where and why, and compiles one of them again when it is mended. */
 #include <stdio.h>
 
 #include "drumbook.h"
 #include "words.h"
 
-enum { PLAN_BYTES = 64 };
+enum { PLAN_BYTES = 256, NODES_AT = 18, NODE_BYTES = 6, EITHER = 3 };
 
 /* Token 0, token 0, either of them. */
 static const uint8_t shared_kind[] = {
@@ -24,6 +24,38 @@ static const uint8_t both_empty[] = {
     3, 0, 0, 0, 1, 0,
 };
 
+/* Fill, any number of rinses, then a rinse and tip: at a rinse, is it one of the many or the last one? */
+static const uint8_t last_rinse[] = {
+    2, 0,  1, 0, 14, 0, 4, 0,  2, 0, 18, 0, 60, 0, /* contents */
+    3, 0, 9, 0,                                    /* 3 kinds, start 9 */
+    2, 0, 0, 0, 0, 0,                              /* 0 token 0, fill */
+    2, 0, 1, 0, 0, 0,                              /* 1 token 1, rinse */
+    2, 0, 2, 0, 0, 0,                              /* 2 token 2, tip */
+    1, 0, 0, 0, 0, 0,                              /* 3 empty */
+    6, 0, 6, 0, 0, 0,                              /* 4 ref 6 */
+    4, 0, 1, 0, 4, 0,                              /* 5 then 1 4 */
+    3, 0, 5, 0, 3, 0,                              /* 6 either 5 3: any number of rinses */
+    4, 0, 1, 0, 2, 0,                              /* 7 then 1 2: a rinse, tip */
+    4, 0, 6, 0, 7, 0,                              /* 8 then 6 7 */
+    4, 0, 0, 0, 8, 0,                              /* 9 then 0 8 */
+};
+
+/* The same runs, mended: fill, a rinse, any number of rinses, tip. */
+static const uint8_t first_rinse[] = {
+    2, 0,  1, 0, 14, 0, 4, 0,  2, 0, 18, 0, 60, 0, /* contents */
+    3, 0, 9, 0,                                    /* 3 kinds, start 9 */
+    2, 0, 0, 0, 0, 0,                              /* 0 token 0, fill */
+    2, 0, 1, 0, 0, 0,                              /* 1 token 1, rinse */
+    2, 0, 2, 0, 0, 0,                              /* 2 token 2, tip */
+    1, 0, 0, 0, 0, 0,                              /* 3 empty */
+    6, 0, 6, 0, 0, 0,                              /* 4 ref 6 */
+    4, 0, 1, 0, 4, 0,                              /* 5 then 1 4 */
+    3, 0, 5, 0, 3, 0,                              /* 6 either 5 3: any number of rinses */
+    4, 0, 6, 0, 2, 0,                              /* 7 then 6 2: any number of rinses, tip */
+    4, 0, 1, 0, 7, 0,                              /* 8 then 1 7 */
+    4, 0, 0, 0, 8, 0,                              /* 9 then 0 8 */
+};
+
 /* A lone fail. */
 static const uint8_t lone_fail[] = {
     2, 0,  1, 0, 14, 0, 4, 0,  2, 0, 18, 0, 6, 0,
@@ -31,24 +63,38 @@ static const uint8_t lone_fail[] = {
     0, 0, 0, 0, 0, 0,
 };
 
-/* Compiles a book and prints the refusal; whether there was one. */
-static int show(const char *name, const uint8_t *book, size_t length)
+/* Prints which two ways a conflict leaves open. */
+static void print_ways(const uint8_t *book, const drumbook_compiled *compiled)
+{
+    unsigned kind = (unsigned)compiled->kind;
+    if (kind == DRUMBOOK_BOTH_NULLABLE)
+        printf(": two ways to take nothing");
+    else if (book[NODES_AT + NODE_BYTES * compiled->place] == EITHER)
+        printf(": both sides can begin with kind %u", kind);
+    else
+        printf(": at kind %u the left can go on and the right can begin", kind);
+}
+
+/* Compiles a book and prints the answer. */
+static uint32_t show(const char *name, const uint8_t *book, size_t length)
 {
     uint8_t plan[PLAN_BYTES];
     drumbook_compiled compiled = drumbook_compile(book, length, plan, sizeof plan);
-    printf("%s: %s, at node %u", name, words(compiled.number), (unsigned)compiled.place);
-    if (compiled.number == DRUMBOOK_CONFLICT && compiled.kind == DRUMBOOK_BOTH_NULLABLE)
-        printf(", where both sides can be empty");
-    else if (compiled.number == DRUMBOOK_CONFLICT)
-        printf(", where both go on with kind %u", (unsigned)compiled.kind);
+    printf("%s: %s", name, words(compiled.number));
+    if (compiled.number != DRUMBOOK_DONE)
+        printf(", at node %u", (unsigned)compiled.place);
+    if (compiled.number == DRUMBOOK_CONFLICT)
+        print_ways(book, &compiled);
     printf("\n");
-    return compiled.number != DRUMBOOK_DONE;
+    return compiled.number;
 }
 
 int main(void)
 {
-    int refused = show("one kind on both sides", shared_kind, sizeof shared_kind)
-        && show("nothing on both sides", both_empty, sizeof both_empty)
-        && show("a lone fail", lone_fail, sizeof lone_fail);
-    return refused ? 0 : 1;
+    int as_due = show("one kind on both sides", shared_kind, sizeof shared_kind) == DRUMBOOK_CONFLICT
+        && show("nothing on both sides", both_empty, sizeof both_empty) == DRUMBOOK_CONFLICT
+        && show("rinses before a last rinse", last_rinse, sizeof last_rinse) == DRUMBOOK_CONFLICT
+        && show("the same, the one rinse first", first_rinse, sizeof first_rinse) == DRUMBOOK_DONE
+        && show("a lone fail", lone_fail, sizeof lone_fail) == DRUMBOOK_BARREN;
+    return as_due ? 0 : 1;
 }

@@ -14,7 +14,7 @@ static inline const char *words(uint32_t number)
         "SETTINGS: the number of kinds or the start is out of range",
         "NODE: a type or field is against the table",
         "BARREN: the start derives nothing",
-        "CONFLICT: one event of lookahead is not enough",
+        "CONFLICT: a node leaves two ways open",
         "PLAN ROOM: the plan buffer is shorter than the plan",
         "PLAN FORM: these bytes are no plan",
         "CELL: a cell that its node never has",

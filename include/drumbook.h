@@ -1,13 +1,14 @@
 /*
  * drumbook: compiles grammar books and reads runs of events by the compiled plans.
  *
- * Every call ends with an answer from the list below, for all bytes that can be handed in, forged plans included. Inputs are only read.
- * Nothing is allocated and nothing is kept between calls. All bytes of a lent buffer are written by every call that is lent one, so
- * what it held before does not matter.
+ * Every call ends with an answer from the list below, for all bytes that can be handed in, forged plans included.
+ * Inputs are only read. Nothing is allocated and nothing is kept between calls. All bytes of a lent buffer are written
+ * by every call that is lent one, so what it held before does not matter.
  *
- * The host's part: a pointer is not null and is aligned for its type, also where its length is 0; it points to as many elements as the
- * length beside it says; and a buffer that is written overlaps no other buffer of the same call. Where a host breaks its part, nothing is
- * promised.
+ * The host's part: a pointer is aligned for its type and points to as many elements as the length beside it says; and
+ * a buffer that is written overlaps no other buffer of the same call. Where the length is 0 the pointer may be null:
+ * this is tested, for every parameter alone and with the others, and not proved; with any other length it is not null.
+ * Where a host breaks its part, nothing is promised.
  *
  * All lengths count elements: bytes of books, plans and runs, 16-bit words of slots and trees.
  */
@@ -21,6 +22,21 @@
 extern "C" {
 #endif
 
+/*
+ * The version of this header and of the library beside it. While the major number is 0, a new minor number may change
+ * calls and structs, and the shared library's name has both; a new patch number changes neither.
+ */
+#define DRUMBOOK_VERSION_MAJOR 0
+#define DRUMBOOK_VERSION_MINOR 1
+#define DRUMBOOK_VERSION_PATCH 0
+
+/* The version as one number that grows, and as text, "0.1.0". */
+#define DRUMBOOK_VERSION_NUMBER \
+    (DRUMBOOK_VERSION_MAJOR * 1000000 + DRUMBOOK_VERSION_MINOR * 1000 + DRUMBOOK_VERSION_PATCH)
+#define DRUMBOOK_VERSION DRUMBOOK_TEXT_(DRUMBOOK_VERSION_MAJOR, DRUMBOOK_VERSION_MINOR, DRUMBOOK_VERSION_PATCH)
+#define DRUMBOOK_TEXT_(major, minor, patch) DRUMBOOK_DIGITS_(major, minor, patch)
+#define DRUMBOOK_DIGITS_(major, minor, patch) #major "." #minor "." #patch
+
 /* The answers' numbers. Where no place is named, the place is 0. */
 enum {
     DRUMBOOK_DONE = 0,        /* a good form; compiled; or the run is accepted, place: its length */
@@ -32,20 +48,21 @@ enum {
     DRUMBOOK_CONFLICT = 6,    /* a reachable conflict; place: the lowest such node; see kind */
     DRUMBOOK_PLAN_ROOM = 7,   /* the plan buffer is shorter than the plan; see size */
     DRUMBOOK_PLAN_FORM = 8,   /* the plan's length, contents, settings or nodes are wrong */
-    DRUMBOOK_CELL = 9,        /* a cell that its node's type never has, or a last cell above 1; place: the first, row times (K + 1), plus column */
+    DRUMBOOK_CELL = 9,        /* a cell that its node's type never has, or a last cell above 1; place: the first such
+                                 cell, row times (K + 1), plus column */
     DRUMBOOK_LONG = 10,       /* more than 65,535 events */
-    DRUMBOOK_DEEP = 11,       /* a part must be held and no slot is free; place: the event, 0 where there is no slot at all */
+    DRUMBOOK_DEEP = 11,       /* a part must be held and no slot is free; place: the event, 0 where there is no slot */
     DRUMBOOK_UNKNOWN = 12,    /* the event's kind is not below K; place: the event */
     DRUMBOOK_UNEXPECTED = 13, /* the event is refused: by a compiled plan, no lawful run goes on so; place: the event */
     DRUMBOOK_END = 14,        /* the run ends where more was due; place: its length */
-    DRUMBOOK_RUNAWAY = 15,    /* N nodes visited at one event and another due, on forged plans only; place: the event */
+    DRUMBOOK_RUNAWAY = 15,    /* N nodes visited at one event and another due, by forged plans only; place: the event */
     DRUMBOOK_NO_ROOM = 16     /* accepted, but more records than the tree buffer holds; see records */
 };
 
 enum {
     DRUMBOOK_LARGEST_BOOK = 3090,   /* bytes of the longest book */
     DRUMBOOK_LARGEST_PLAN = 36376,  /* bytes of the longest plan: a buffer that always suffices */
-    DRUMBOOK_BOTH_NULLABLE = 255,   /* the kind of a conflict where both sides of an either are nullable */
+    DRUMBOOK_BOTH_NULLABLE = 255,   /* the kind of a conflict where both sides of an either can take nothing */
     DRUMBOOK_EMPTY_RECORD = 32768   /* added to the node number in the record of a part that takes no event */
 };
 
@@ -62,28 +79,34 @@ drumbook_formed drumbook_form(const uint8_t *book, size_t book_len);
 typedef struct {
     uint32_t number; /* DRUMBOOK_DONE, or the first of 1 to 7 that holds against the book */
     uint32_t place;  /* the node that 4, 5 and 6 name, otherwise 0 */
-    uint32_t kind;   /* with 6 the lowest kind shared, or DRUMBOOK_BOTH_NULLABLE, which goes before a shared kind; otherwise 0 */
+    uint32_t kind;   /* with 6 the lowest kind shared, or DRUMBOOK_BOTH_NULLABLE, which goes first; otherwise 0 */
     uint32_t size;   /* with 0 and 7 the plan's size in bytes, otherwise 0 */
 } drumbook_compiled;
 
 /*
- * Compiles a book. With DRUMBOOK_DONE the first size bytes of the plan buffer are the plan and the rest is zero; with any other number
- * the whole buffer is zero. Takes some 17 KB of stack (measured on x86-64), and no other memory.
+ * Compiles a book. With DRUMBOOK_DONE the first size bytes of the plan buffer are the plan and the rest is zero; with
+ * any other number the whole buffer is zero. A plan buffer of length 0 asks for the size alone: a book that passes
+ * answers DRUMBOOK_PLAN_ROOM with it. Takes some 17 KB of stack (docs/MEMORY.md), and no other memory.
  */
 drumbook_compiled drumbook_compile(const uint8_t *book, size_t book_len, uint8_t *plan, size_t plan_len);
 
 /* What reading answers. */
 typedef struct {
     uint32_t number;   /* DRUMBOOK_DONE, or one of 8 to 16 */
-    uint32_t place;    /* the run's length with 0 and 14, the cell with 9, the event with 11, 12, 13 and 15, otherwise 0 */
+    uint32_t place;    /* the run's length with 0 and 14, the cell with 9, the event with 11, 12, 13, 15, otherwise 0 */
     uint32_t records;  /* with 0 and 16 how many records the tree has, otherwise 0 */
-    uint64_t expected; /* with 12, 13 and 14 the kinds the part held last could begin with, bit k for kind k; otherwise 0 */
+    uint64_t expected; /* with 12, 13 and 14 kinds that could have come, bit k for kind k; otherwise 0. Today these are
+                          the kinds that the part held last can begin with (its FIRST set), and not every lawful kind:
+                          where that part may take nothing, what the part below it begins with is lawful too, and is
+                          not in the set */
 } drumbook_reading;
 
 /*
- * Reads a run by a plan of exactly plan_len bytes. A run is one byte for each event, its kind. With DRUMBOOK_DONE the first records words
- * of the tree are the derivation, top-down and left to right, a part that takes no event as one empty record, and the rest is zero; with
- * any other number the whole tree is zero. The holding slots are zero after every call. Takes under 300 bytes of stack, as the form test does.
+ * Reads a run by a plan of exactly plan_len bytes. A run is one byte for each event, its kind. With DRUMBOOK_DONE the
+ * first records words of the tree are the derivation, top-down and left to right, a part that takes no event as one
+ * empty record, and the rest is zero; with any other number the whole tree is zero. The holding slots are zero after
+ * every call. A tree of length 0 asks whether the run is accepted, and for the number of records: DRUMBOOK_NO_ROOM
+ * then says accepted, since every accepted run has a record. Takes under 300 bytes of stack, as the form test does.
  */
 drumbook_reading drumbook_read(const uint8_t *plan, size_t plan_len, const uint8_t *run, size_t run_len,
                                uint16_t *held, size_t held_len, uint16_t *tree, size_t tree_len);

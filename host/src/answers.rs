@@ -19,13 +19,22 @@ pub const RUNAWAY: u32 = 15;
 pub const NO_ROOM: u32 = 16;
 
 /// Stands beside the answer numbers for the listing program's message that its input is too long.
-pub const INPUT_TOO_LONG: u32 = 17;
+pub const INPUT_TOO_LONG: u32 = 62;
 
 /// Stands beside the answer numbers for the listing program's message that its input is too short.
-pub const INPUT_TOO_SHORT: u32 = 18;
+pub const INPUT_TOO_SHORT: u32 = 63;
 
-/// How many answers are told apart.
-pub const ANSWERS: usize = 19;
+/// Answers are told apart below this number.
+pub const ANSWERS: usize = 64;
+
+/// The answer of this number as the fuzzer prints it.
+pub fn answer_name(number: u32) -> String {
+    match number {
+        INPUT_TOO_LONG => "input too long".to_string(),
+        INPUT_TOO_SHORT => "input too short".to_string(),
+        number => number.to_string(),
+    }
+}
 
 /// The kind given where both sides of an either are nullable.
 pub const BOTH_NULLABLE: u32 = 255;
@@ -62,9 +71,17 @@ pub struct Reading {
 }
 
 /// How often each answer number was given.
-#[derive(Default)]
 pub struct Tally {
     counts: [usize; ANSWERS],
+}
+
+impl Default for Tally {
+    /// No answer was given.
+    fn default() -> Tally {
+        Tally {
+            counts: [0; ANSWERS],
+        }
+    }
 }
 
 impl Tally {

@@ -10,9 +10,11 @@ pub mod form;
 pub mod fuzz;
 pub mod listing;
 pub mod meaning;
+pub mod pair;
 pub mod program;
 pub mod read;
 pub mod recognise;
+pub mod smaller;
 pub mod worked;
 
 #[cfg(test)]
@@ -37,7 +39,9 @@ mod tests {
             let end = rest.find(|c: char| !c.is_ascii_digit()).expect(name);
             rest[..end].parse().expect(name)
         };
-        let names = "DONE LENGTH CONTENTS SETTINGS NODE BARREN CONFLICT PLAN_ROOM PLAN_FORM CELL LONG DEEP UNKNOWN UNEXPECTED END RUNAWAY NO_ROOM";
+        let names =
+            "DONE LENGTH CONTENTS SETTINGS NODE BARREN CONFLICT PLAN_ROOM PLAN_FORM CELL LONG \
+                     DEEP UNKNOWN UNEXPECTED END RUNAWAY NO_ROOM";
         for (number, name) in names.split(' ').enumerate() {
             assert_eq!(named(name), number as u32, "{name}");
         }
@@ -45,6 +49,21 @@ mod tests {
         assert_eq!(named("EMPTY_RECORD"), u32::from(EMPTY_RECORD));
         assert_eq!(named("LARGEST_BOOK"), book::LONGEST_BOOK as u32);
         assert_eq!(named("LARGEST_PLAN"), book::LONGEST_PLAN as u32);
+    }
+
+    /// Every call answers its example with done, and says each number once.
+    #[test]
+    fn calls_of_the_table() {
+        for call in calls::CALLS {
+            let arguments = (call.example)();
+            assert_eq!(arguments.len(), call.takes.len(), "{}", call.name);
+            let answer = (call.wanted)(&arguments);
+            assert_eq!(answer.number(), DONE, "{}", call.name);
+            assert_eq!(answer.fields.len(), call.fields.len(), "{}", call.name);
+            let numbers: Vec<u32> = call.answers.iter().map(|answer| answer.0).collect();
+            let grow = numbers.windows(2).all(|pair| pair[0] < pair[1]);
+            assert!(grow && numbers.iter().all(|&number| number < ANSWERS as u32));
+        }
     }
 
     /// The large shapes keep to the form of a book.

@@ -21,6 +21,12 @@ pub const TOO_LONG: &str = "input too long\n";
 /// The message for an input that ends within the length or the book.
 pub const TOO_SHORT: &str = "input too short\n";
 
+/// The input with these bytes given as a book, their length before them, and these events.
+pub fn input(book: &[u8], run: &[u8]) -> Vec<u8> {
+    let length = book.len() as u16;
+    [&length.to_le_bytes(), book, run].concat()
+}
+
 /// What the program prints for an input.
 pub fn listing(input: &[u8]) -> String {
     match taken_apart(input) {

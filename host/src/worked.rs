@@ -2,7 +2,8 @@
 
 use crate::answers::*;
 use crate::book::*;
-use crate::books::inputs::input;
+use crate::books::examples::*;
+use crate::listing::input;
 use crate::recognise::{Meaning, Table};
 
 /// The first 18 bytes of the rinse book.
@@ -10,63 +11,6 @@ const RINSE_HEAD: [u8; BOOK_NODES] = [
     0x02, 0x00, 0x01, 0x00, 0x0E, 0x00, 0x04, 0x00, 0x02, 0x00, 0x12, 0x00, 0x36, 0x00, 0x03, 0x00,
     0x08, 0x00,
 ];
-
-/// The rinse book.
-pub fn rinse() -> Book {
-    Book::ending(
-        3,
-        &[
-            (TOKEN, 0, 0),
-            (TOKEN, 1, 0),
-            (TOKEN, 2, 0),
-            (EMPTY, 0, 0),
-            (REF, 6, 0),
-            (THEN, 1, 4),
-            (EITHER, 5, 3),
-            (THEN, 6, 2),
-            (THEN, 0, 7),
-        ],
-    )
-}
-
-/// Empty, then nodes "then" of the node before twice, 512 in all.
-pub fn doubling() -> Book {
-    let mut nodes = vec![(EMPTY, 0, 0)];
-    nodes.extend((1..MOST_NODES as u16).map(|own| (THEN, own - 1, own - 1)));
-    Book::ending(1, &nodes)
-}
-
-/// Two tokens of one kind, and an either of them.
-pub fn shared_kind() -> Book {
-    Book::ending(1, &[(TOKEN, 0, 0), (TOKEN, 0, 0), (EITHER, 0, 1)])
-}
-
-/// Left recursion that can never produce anything, beside a token.
-pub fn harmless_recursion() -> Book {
-    Book::ending(
-        1,
-        &[
-            (REF, 4, 0),
-            (FAIL, 0, 0),
-            (THEN, 0, 1),
-            (TOKEN, 0, 0),
-            (EITHER, 2, 3),
-        ],
-    )
-}
-
-/// The first conflict book with start 0.
-pub fn shared_kind_aside() -> Book {
-    Book {
-        start: 0,
-        ..shared_kind()
-    }
-}
-
-/// A single node.
-pub fn lone(form: u16) -> Book {
-    Book::ending(1, &[(form, 0, 0)])
-}
 
 /// The rows of the rinse book's plan.
 const RINSE_ROWS: [[u8; 4]; 9] = [
@@ -80,29 +24,6 @@ const RINSE_ROWS: [[u8; 4]; 9] = [
     [0, 3, 4, 0],
     [3, 0, 0, 0],
 ];
-
-/// Two empties, and an either of them.
-fn both_nullable() -> Book {
-    Book::ending(1, &[(EMPTY, 0, 0), (EMPTY, 0, 0), (EITHER, 0, 1)])
-}
-
-/// A token that may be left out, and the same token after it.
-fn not_after() -> Book {
-    let nodes = [(TOKEN, 0, 0), (EMPTY, 0, 0), (EITHER, 0, 1), (THEN, 2, 0)];
-    Book::ending(1, &nodes)
-}
-
-/// Left recursion that conflicts.
-fn left_recursion() -> Book {
-    let nodes = [
-        (REF, 4, 0),
-        (TOKEN, 0, 0),
-        (THEN, 0, 1),
-        (TOKEN, 1, 0),
-        (EITHER, 2, 3),
-    ];
-    Book::ending(2, &nodes)
-}
 
 /// Each worked book with the compiler's answer in ample room: number, place, kind, size.
 fn compile_cases() -> Vec<(Book, [u32; 4])> {

@@ -3,45 +3,18 @@
 use host::answers::*;
 use host::book::*;
 use host::books::damaged::damaged;
+use host::books::examples::doubling;
 use host::books::random::Random;
 use host::books::shapes::{any_book, large_book};
 use host::books::small::all_books;
-use host::calls::{wanted_form, Lender, Lending};
+use host::calls::form::{given, FORM};
 use host::ffi;
 use host::ffi::lent::Edge;
+use host::pair::Pair;
 use host::worked;
 
 /// The longest input that is tried.
 const LONGEST: usize = 4096;
-
-/// Calls both on the same bytes, between closed pages, and compares the answers.
-struct Pair {
-    lender: Lender,
-    tally: Tally,
-}
-
-impl Pair {
-    /// A pair that has compared nothing yet.
-    fn new() -> Pair {
-        Pair {
-            lender: Lender::ample(),
-            tally: Tally::default(),
-        }
-    }
-
-    /// Compares both answers to these bytes, which end at a closed page.
-    fn compare(&mut self, bytes: &[u8]) {
-        self.compare_at(bytes, Edge::End);
-    }
-
-    /// Compares both answers to these bytes, which lie at an edge.
-    fn compare_at(&mut self, bytes: &[u8], edge: Edge) {
-        let lending = Lending { edge, garbage: 0 };
-        let answer = self.lender.form(ffi::form::form, bytes, lending);
-        assert_eq!(answer, wanted_form(bytes), "of the book {bytes:?}");
-        self.tally.count(answer.number());
-    }
-}
 
 /// The worked books and damaged copies of the rinse book.
 #[test]
@@ -52,9 +25,11 @@ fn worked_books() {
 /// All well-formed books of up to three nodes.
 #[test]
 fn every_small_book() {
-    let mut pair = Pair::new();
+    let mut pair = Pair::of(&FORM);
     for (count, kinds) in [(1, 1), (2, 1), (3, 1), (1, 2), (2, 2), (3, 2)] {
-        all_books(count, kinds, &mut |book| pair.compare(&book.bytes()));
+        all_books(count, kinds, &mut |book| {
+            pair.compare(&given(&book.bytes()));
+        });
     }
     assert!(pair.tally.total() > 4_000);
     pair.tally.expect(&[DONE], pair.tally.total());
@@ -63,7 +38,7 @@ fn every_small_book() {
 /// Two nodes of all small types and fields, right or wrong.
 #[test]
 fn small_fields_in_two_nodes() {
-    let mut pair = Pair::new();
+    let mut pair = Pair::of(&FORM);
     let nodes: Vec<Node> = (0..8 * 3 * 3)
         .map(|n| node(n / 9, n / 3 % 3, n % 3))
         .collect();
@@ -77,7 +52,7 @@ fn small_fields_in_two_nodes() {
                         start,
                         nodes,
                     };
-                    pair.compare(&book.bytes());
+                    pair.compare(&given(&book.bytes()));
                 }
             }
         }
@@ -90,12 +65,12 @@ fn small_fields_in_two_nodes() {
 /// Every length, with random contents and with those fixed by the length, at both edges.
 #[test]
 fn every_length() {
-    let mut pair = Pair::new();
+    let mut pair = Pair::of(&FORM);
     let mut random = Random::new(1);
     let long: Vec<u8> = (0..LONGEST).map(|_| random.below(3) as u8).collect();
     for length in 0..=LONGEST {
         let mut bytes = long[..length].to_vec();
-        pair.compare(&bytes);
+        pair.compare(&given(&bytes));
         let nodes_length = (length.max(BOOK_NODES) - BOOK_NODES) as u16;
         let words = [2, 1, 14, 4, 2, 18, nodes_length, 3, 0];
         for (place, byte) in bytes.iter_mut().zip(bytes_of(&words)) {
@@ -104,8 +79,8 @@ fn every_length() {
         let mut fails = bytes.clone();
         fails.iter_mut().skip(BOOK_NODES).for_each(|b| *b = 0);
         for edge in [Edge::Begin, Edge::End] {
-            pair.compare_at(&bytes, edge);
-            pair.compare_at(&fails, edge);
+            pair.compare_at(&given(&bytes), edge);
+            pair.compare_at(&given(&fails), edge);
         }
     }
     pair.tally.expect(&[LENGTH], 5 * (LONGEST + 1 - MOST_NODES));
@@ -113,22 +88,10 @@ fn every_length() {
     pair.tally.expect(&[DONE], MOST_NODES);
 }
 
-/// Lengths that 16 bits cannot tell from that of a book.
-#[test]
-fn lengths_beyond_16_bits() {
-    let mut pair = Pair::new();
-    for more in [65_536, 2 * 65_536] {
-        let mut bytes = worked::rinse().bytes();
-        bytes.resize(bytes.len() + more, 0);
-        pair.compare(&bytes);
-    }
-    pair.tally.expect(&[LENGTH], 2);
-}
-
 /// The last node of the largest book, against the table in each way.
 #[test]
 fn last_node_of_the_largest_book() {
-    let mut pair = Pair::new();
+    let mut pair = Pair::of(&FORM);
     let last = MOST_NODES as u16 - 1;
     for bad in [
         node(REF + 1, 0, 0),
@@ -138,9 +101,9 @@ fn last_node_of_the_largest_book() {
         node(TAGGED, 0, 0),
         node(REF, last + 1, 0),
     ] {
-        let mut book = worked::doubling();
+        let mut book = doubling();
         book.nodes[MOST_NODES - 1] = bad;
-        pair.compare(&book.bytes());
+        pair.compare(&given(&book.bytes()));
     }
     pair.tally.expect(&[NODE], 6);
 }
@@ -148,7 +111,7 @@ fn last_node_of_the_largest_book() {
 /// All values of each word of a small book, for a node of each type.
 #[test]
 fn every_value_of_each_word() {
-    let mut pair = Pair::new();
+    let mut pair = Pair::of(&FORM);
     for form in FAIL..=REF + 1 {
         let nodes = [
             (TOKEN, 1, 0),
@@ -166,7 +129,7 @@ fn every_value_of_each_word() {
             let mut bytes = book.clone();
             for value in 0..=u16::MAX {
                 bytes[2 * word..2 * word + 2].copy_from_slice(&value.to_le_bytes());
-                pair.compare(&bytes);
+                pair.compare(&given(&bytes));
             }
         }
     }
@@ -178,7 +141,7 @@ fn every_value_of_each_word() {
 /// Books of all shapes with none, one or two things damaged.
 #[test]
 fn random_books_and_damaged_ones() {
-    let mut pair = Pair::new();
+    let mut pair = Pair::of(&FORM);
     let mut random = Random::new(2);
     for round in 0..200_000 {
         let book = if round % 50 == 0 {
@@ -191,7 +154,7 @@ fn random_books_and_damaged_ones() {
             bytes = damaged(&mut random, &bytes);
         }
         let edge = random.pick(&[Edge::Begin, Edge::End]);
-        pair.compare_at(&bytes[..bytes.len().min(LONGEST)], edge);
+        pair.compare_at(&given(&bytes[..bytes.len().min(LONGEST)]), edge);
     }
     pair.tally
         .expect(&[DONE, LENGTH, CONTENTS, SETTINGS, NODE], 4_000);

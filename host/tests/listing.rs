@@ -2,10 +2,11 @@
 
 use host::answers::*;
 use host::book::{node, Book, EITHER, LONGEST_BOOK, TAGGED, TOKEN};
-use host::books::inputs::{any_input, input};
-use host::books::limits::{nested_run, nesting, rinse_run};
+use host::books::examples::{nesting, rinse};
+use host::books::inputs::any_input;
+use host::books::limits::{nested_run, rinse_run};
 use host::books::random::Random;
-use host::listing::{listing, MOST_EVENTS, TOO_LONG, TOO_SHORT};
+use host::listing::{input, listing, MOST_EVENTS, TOO_LONG, TOO_SHORT};
 use host::program::{Delivery, Program};
 use host::worked;
 
@@ -51,7 +52,7 @@ impl Pair {
 
 /// The rinse book as an input, with these events.
 fn rinse_input(run: &[u8]) -> Vec<u8> {
-    input(&worked::rinse().bytes(), run)
+    input(&rinse().bytes(), run)
 }
 
 /// This length, and so many bytes after it.
@@ -119,6 +120,24 @@ fn inputs_that_are_too_long() {
     }
 }
 
+/// Books and runs of lengths that few bits do not tell from those of the rinse book and of a lawful run.
+#[test]
+fn lengths_of_few_bits() {
+    let mut pair = Pair::new();
+    let book = rinse().bytes();
+    for bits in 7..16 {
+        let mut longer = book.clone();
+        longer.resize(book.len() + (1 << bits), 0);
+        pair.compare(&input(&longer, &[0, 1, 2]), Delivery::Whole);
+    }
+    for bits in 2..21 {
+        let mut run = vec![0, 1, 2];
+        run.resize(3 + (1 << bits), 0);
+        pair.compare(&input(&book, &run), Delivery::Whole);
+    }
+    pair.tally.expect(&[LENGTH, UNEXPECTED, INPUT_TOO_LONG], 1);
+}
+
 /// Lawful runs of many lengths, and so outputs of many lengths.
 #[test]
 fn outputs_of_many_lengths() {
@@ -160,7 +179,7 @@ fn room_and_slots() {
         Delivery::Whole,
         "refused 16 0 8196\n",
     );
-    let mut odd = worked::rinse();
+    let mut odd = rinse();
     odd.nodes.push(node(TAGGED, odd.start, 1));
     odd.start += 1;
     pair.expect(

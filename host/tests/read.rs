@@ -2,67 +2,34 @@
 
 use host::answers::*;
 use host::book::*;
+use host::books::examples::{nesting, rinse, winding};
 use host::books::forged::{any_plan, circle, restless_plan};
-use host::books::limits::{nesting, rinse_run, winding};
+use host::books::limits::rinse_run;
 use host::books::random::Random;
 use host::books::runs::{any_run, lawful_run, Heights};
 use host::books::shapes::{any_book, large_book, likely_book};
-use host::calls::{wanted_read, Lender, Lending};
+use host::calls::read::{given, READ};
 use host::compile::{compile, plan_of};
 use host::ffi;
 use host::ffi::lent::Edge;
+use host::pair::Pair;
 use host::read::{cells_of, read, MOST_EVENTS};
 use host::worked;
-
-/// What the buffers hold before a call.
-const GARBAGE: u8 = 0xA5;
 
 /// The answers that a reader can give.
 const READ_AS: [u32; 10] = [
     DONE, PLAN_FORM, CELL, LONG, DEEP, UNKNOWN, UNEXPECTED, END, RUNAWAY, NO_ROOM,
 ];
 
-/// Calls both on the same input, between closed pages, and compares answers and buffers.
-struct Pair {
-    lender: Lender,
-    tally: Tally,
-}
-
-impl Pair {
-    /// A pair that has compared nothing yet.
-    fn new() -> Pair {
-        Pair {
-            lender: Lender::ample(),
-            tally: Tally::default(),
-        }
-    }
-
-    /// Compares answers and buffers for a plan and a run with so many slots and so much room.
-    fn compare(&mut self, plan: &[u8], run: &[u8], slots: usize, room: usize, edge: Edge) {
-        let lending = Lending {
-            edge,
-            garbage: GARBAGE,
-        };
-        let wanted = wanted_read(plan, run, slots, room);
-        let call = ffi::read::read;
-        let answer = self.lender.read(call, (plan, run), (slots, room), lending);
-        assert!(
-            answer == wanted,
-            "plan {plan:?}, run {run:?}, {slots} slots, room {room}: {answer} where {wanted} is right",
-        );
-        self.tally.count(answer.number());
-    }
-
-    /// Compares for some numbers of slots, and for rooms about the size of the tree.
-    fn compare_rooms(&mut self, random: &mut Random, plan: &[u8], run: &[u8]) {
-        let few = random.below(5);
-        let slots = random.pick(&[few, few, 40, 500]);
-        let records = read(plan, run, &mut vec![0; slots], &mut []).records as usize;
-        let more = records + random.within(1, 9);
-        let room = random.pick(&[0, records, records.saturating_sub(1), records, more]);
-        let edge = random.pick(&[Edge::Begin, Edge::End]);
-        self.compare(plan, run, slots, room, edge);
-    }
+/// Compares for some numbers of slots, and for rooms about the size of the tree.
+fn compare_rooms(pair: &mut Pair, random: &mut Random, plan: &[u8], run: &[u8]) {
+    let few = random.below(5);
+    let slots = random.pick(&[few, few, 40, 500]);
+    let records = read(plan, run, &mut vec![0; slots], &mut []).records as usize;
+    let more = records + random.within(1, 9);
+    let room = random.pick(&[0, records, records.saturating_sub(1), records, more]);
+    let edge = random.pick(&[Edge::Begin, Edge::End]);
+    pair.compare_at(&given(plan, run, slots, room), edge);
 }
 
 /// The plan of a book, if it passes.
@@ -80,7 +47,7 @@ fn worked_runs() {
 /// Plans of books that pass, with lawful, spoilt and strange runs.
 #[test]
 fn compiled_plans() {
-    let mut pair = Pair::new();
+    let mut pair = Pair::of(&READ);
     let mut random = Random::new(1);
     for _ in 0..60_000 {
         let book = likely_book(&mut random);
@@ -90,7 +57,7 @@ fn compiled_plans() {
         let heights = Heights::of(&book);
         for _ in 0..3 {
             let run = any_run(&mut random, &book, &heights);
-            pair.compare_rooms(&mut random, &plan, &run);
+            compare_rooms(&mut pair, &mut random, &plan, &run);
         }
     }
     assert!(pair.tally.total() > 100_000);
@@ -101,7 +68,7 @@ fn compiled_plans() {
 /// Plans forged in all ways, now and then with a run that is too long.
 #[test]
 fn forged_plans() {
-    let mut pair = Pair::new();
+    let mut pair = Pair::of(&READ);
     let mut random = Random::new(2);
     for round in 0..150_000 {
         let book = any_book(&mut random);
@@ -114,7 +81,7 @@ fn forged_plans() {
         if round % 50 == 0 {
             run.resize(MOST_EVENTS + random.within(1, 3), 0);
         }
-        pair.compare_rooms(&mut random, &plan, &run);
+        compare_rooms(&mut pair, &mut random, &plan, &run);
     }
     pair.tally.expect(&READ_AS, 2_000);
 }
@@ -122,7 +89,7 @@ fn forged_plans() {
 /// Plans at the limits of nodes, kinds and start, and beyond them.
 #[test]
 fn plans_beyond_limits() {
-    let mut pair = Pair::new();
+    let mut pair = Pair::of(&READ);
     for count in [0, 1, MOST_NODES, MOST_NODES + 1] {
         for kinds in [0, 1, MOST_KINDS, MOST_KINDS + 1] {
             for start in [0, count.saturating_sub(1), count] {
@@ -134,7 +101,7 @@ fn plans_beyond_limits() {
                 let mut rows = vec![0; count * (kinds + 1)];
                 let last_cells = rows.iter_mut().skip(kinds).step_by(kinds + 1);
                 last_cells.for_each(|cell| *cell = 1);
-                pair.compare(&book.plan(&rows), &[], 1, 1, Edge::End);
+                pair.compare(&given(&book.plan(&rows), &[], 1, 1));
             }
         }
     }
@@ -142,22 +109,10 @@ fn plans_beyond_limits() {
     pair.tally.expect(&[PLAN_FORM], 30);
 }
 
-/// Lengths that 16 bits cannot tell from that of a plan.
-#[test]
-fn lengths_beyond_16_bits() {
-    let mut pair = Pair::new();
-    for more in [65_536, 2 * 65_536] {
-        let mut plan = plan_of(&worked::rinse());
-        plan.resize(plan.len() + more, 0);
-        pair.compare(&plan, &[0, 2], 2, 9, Edge::End);
-    }
-    pair.tally.expect(&[PLAN_FORM], 2);
-}
-
 /// The last cells of the largest plan, each against its node's type.
 #[test]
 fn last_cells_of_the_largest_plan() {
-    let mut pair = Pair::new();
+    let mut pair = Pair::of(&READ);
     let book = Book {
         kinds: MOST_KINDS as u16,
         start: 0,
@@ -167,7 +122,7 @@ fn last_cells_of_the_largest_plan() {
     for place in [32_767, 32_768, cells - 2, cells - 1] {
         let mut rows = vec![0; cells];
         rows[place] = 2;
-        pair.compare(&book.plan(&rows), &[], 1, 1, Edge::End);
+        pair.compare(&given(&book.plan(&rows), &[], 1, 1));
     }
     pair.tally.expect(&[CELL], 4);
 }
@@ -175,7 +130,7 @@ fn last_cells_of_the_largest_plan() {
 /// Plans of up to 512 nodes and 64 kinds.
 #[test]
 fn large_plans() {
-    let mut pair = Pair::new();
+    let mut pair = Pair::of(&READ);
     let mut random = Random::new(3);
     for round in 0..2_000 {
         let book = large_book(&mut random);
@@ -187,7 +142,7 @@ fn large_plans() {
         let heights = Heights::of(&book);
         for _ in 0..3 {
             let run = any_run(&mut random, &book, &heights);
-            pair.compare_rooms(&mut random, &plan, &run);
+            compare_rooms(&mut pair, &mut random, &plan, &run);
         }
     }
     let common = [DONE, PLAN_FORM, CELL, DEEP, UNKNOWN, UNEXPECTED, END];
@@ -197,7 +152,7 @@ fn large_plans() {
 /// Lawful runs with every number of slots from none to enough.
 #[test]
 fn every_number_of_slots() {
-    let mut pair = Pair::new();
+    let mut pair = Pair::of(&READ);
     let mut random = Random::new(4);
     let mut rounds = 0;
     while rounds < 5_000 {
@@ -210,7 +165,7 @@ fn every_number_of_slots() {
         for slots in 0.. {
             let answer = read(&plan, &run, &mut vec![0; slots], &mut []);
             let records = answer.records as usize;
-            pair.compare(&plan, &run, slots, records, Edge::End);
+            pair.compare(&given(&plan, &run, slots, records));
             if answer.number != DEEP {
                 break;
             }
@@ -222,7 +177,7 @@ fn every_number_of_slots() {
 /// Walks that end, or go on, at the last visit that is allowed.
 #[test]
 fn walks_of_as_many_visits_as_nodes() {
-    let mut pair = Pair::new();
+    let mut pair = Pair::of(&READ);
     for count in 2..=40 {
         for last in [FAIL, TOKEN, REF, THEN] {
             for &cell in cells_of(last) {
@@ -230,8 +185,8 @@ fn walks_of_as_many_visits_as_nodes() {
                     let plan = circle(count, start, last, cell);
                     for slots in 0..3 {
                         for run in [&[] as &[u8], &[0], &[0, 0]] {
-                            pair.compare(&plan, run, slots, 50, Edge::End);
-                            pair.compare(&plan, run, slots, 2, Edge::Begin);
+                            pair.compare(&given(&plan, run, slots, 50));
+                            pair.compare_at(&given(&plan, run, slots, 2), Edge::Begin);
                         }
                     }
                 }
@@ -245,8 +200,8 @@ fn walks_of_as_many_visits_as_nodes() {
 /// The rinse book with runs about the limit of events.
 #[test]
 fn longest_runs() {
-    let mut pair = Pair::new();
-    let rinse = plan_of(&worked::rinse());
+    let mut pair = Pair::of(&READ);
+    let rinse = plan_of(&rinse());
     for length in [65_533, 65_534, 65_535, 65_536, 65_537] {
         let mut run = rinse_run(length);
         let records = 4 * length - 4;
@@ -257,14 +212,14 @@ fn longest_runs() {
             (500, records),
             (2, records - 1),
         ] {
-            pair.compare(&rinse, &run, slots, room, Edge::End);
+            pair.compare(&given(&rinse, &run, slots, room));
         }
         run[length - 1] = 1;
-        pair.compare(&rinse, &run, 2, 300_000, Edge::Begin);
+        pair.compare_at(&given(&rinse, &run, 2, 300_000), Edge::Begin);
         run[length - 1] = 0;
-        pair.compare(&rinse, &run, 2, 300_000, Edge::Begin);
+        pair.compare_at(&given(&rinse, &run, 2, 300_000), Edge::Begin);
         run[length - 1] = 3;
-        pair.compare(&rinse, &run, 2, 300_000, Edge::Begin);
+        pair.compare_at(&given(&rinse, &run, 2, 300_000), Edge::Begin);
     }
     pair.tally.expect(&[DONE, LONG], 5);
     pair.tally
@@ -274,13 +229,13 @@ fn longest_runs() {
 /// Nesting up to all events, with slots about the depth.
 #[test]
 fn deepest_runs() {
-    let mut pair = Pair::new();
+    let mut pair = Pair::of(&READ);
     let plan = plan_of(&nesting());
     for opened in [32_766, 32_767, 65_535] {
         let mut run = vec![0; opened];
         run.resize(65_534.max(opened), 1);
         for slots in [opened - 1, opened, opened + 1, 65_536, 70_000] {
-            pair.compare(&plan, &run, slots, 400_000, Edge::End);
+            pair.compare(&given(&plan, &run, slots, 400_000));
         }
     }
     pair.tally.expect(&[DONE, DEEP, END], 2);
@@ -289,13 +244,13 @@ fn deepest_runs() {
 /// The longest run with nearly all nodes visited at each event.
 #[test]
 fn greatest_trees() {
-    let mut pair = Pair::new();
+    let mut pair = Pair::of(&READ);
     let run = vec![0; MOST_EVENTS];
     let (visits, skips) = (plan_of(&winding(false)), plan_of(&winding(true)));
     let visited = 511 * MOST_EVENTS;
-    pair.compare(&visits, &run, 2, visited, Edge::End);
-    pair.compare(&visits, &run, 2, visited - 1, Edge::Begin);
-    pair.compare(&skips, &run, 2, 1_000, Edge::End);
+    pair.compare(&given(&visits, &run, 2, visited));
+    pair.compare_at(&given(&visits, &run, 2, visited - 1), Edge::Begin);
+    pair.compare(&given(&skips, &run, 2, 1_000));
     pair.tally.expect(&[DONE], 1);
     pair.tally.expect(&[NO_ROOM], 2);
 }

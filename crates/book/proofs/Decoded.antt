@@ -8,38 +8,33 @@ use borrow.Author.Tests.{ltb-true, ltb-false, leb-true, lt-ltb, le-ltb}
 use lib.Dec.{ltb, leb, eqb}
 use lib.ListN.{length}
 use Rattle.words.specs.Words.{u16At}
-use Rattle.words.proofs.Tests.{both, holds, fails}
+use Rattle.words.proofs.Tests.{both, holds, fails, never}
 use Rattle.book.specs.Book.{Proper, fail-is, empty-is, token-is, either-is, then-is, tagged-is, ref-is, WellFormed}
-use Rattle.book.specs.Decode.{nodeOf, fieldsGood, nodeAt, nodes, nodeGood, GoodNodes, typeAt, leftAt, rightAt}
+use Rattle.book.specs.Decode.{typeOf, typedNode, fieldsGood, nodeAt, nodes, nodeGood, GoodNodes, typeAt}
 use Rattle.book.specs.Form.{judged, DONE, NODE, settingsAt, nodesAt, countOf, lengthGood, contentsGood, settingsGood, formOf, bookOf}
+use Rattle.book.specs.declared.Fields.{Fields}
 use Rattle.book.specs.declared.Judged.{Judged}
 use Rattle.book.specs.declared.Node.the-variants.{Fail}
+use Rattle.book.specs.declared.NodeType.{NodeType}
 use Rattle.book.proofs.FirstBad.{first-none}
 use Rattle.book.proofs.Laws.{Sized, sized, bad-node, form-length, form-contents, form-settings, form-nodes}
 
--- two joined bounds
-bounds : (a b c d : ℕ) → (ltb a b && ltb c d) ≡ true → (a < b) × (c < d)
-bounds a b c d good = let (low, high) = both (ltb a b) (ltb c d) good in (ltb-true a b low, ltb-true c d high)
-
--- a bound joined with another test
-bound : (a b : ℕ) (other : Bool) → (ltb a b && other) ≡ true → a < b
-bound a b other good = ltb-true a b (both (ltb a b) other good .0)
-
--- a type, a left and a right that the type table takes are a proper node
-pub fields-proper : (kinds count own type left right : ℕ) → fieldsGood kinds count own type left right ≡ true
-    → Proper kinds count own (nodeOf type left right)
-fields-proper kinds count own zero left right good = fail-is
-fields-proper kinds count own (suc zero) left right good = empty-is
-fields-proper kinds count own (suc (suc zero)) left right good = token-is (bound left kinds (eqb right 0) good)
-fields-proper kinds count own (suc (suc (suc zero))) left right good =
-    let (l, r) = bounds left own right own good in either-is l r
-fields-proper kinds count own (suc (suc (suc (suc zero)))) left right good =
-    let (l, r) = bounds left own right own good in then-is l r
-fields-proper kinds count own (suc (suc (suc (suc (suc zero))))) left right good =
-    let (l, r) = bounds left own 0 right good in tagged-is l r
-fields-proper kinds count own (suc (suc (suc (suc (suc (suc zero)))))) left right good =
-    ref-is (bound left count (eqb right 0) good)
-fields-proper kinds count own (suc (suc (suc (suc (suc (suc (suc more))))))) left right good = fail-is
+-- fields that the type table takes are those of a proper node
+pub fields-proper : (type : NodeType) (f : Fields) → fieldsGood type f ≡ true
+    → Proper (f .kinds) (f .count) (f .own) (typedNode type (f .left) (f .right))
+fields-proper NodeType.Fail f good = fail-is
+fields-proper NodeType.Empty f good = empty-is
+fields-proper NodeType.Token f good = token-is (ltb-true _ _ (both (ltb (f .left) (f .kinds)) _ good .0))
+fields-proper NodeType.Either f good =
+    let (l, r) = both (ltb (f .left) (f .own)) _ good in either-is (ltb-true _ _ l) (ltb-true _ _ r)
+fields-proper NodeType.Then f good =
+    let (l, r) = both (ltb (f .left) (f .own)) _ good in then-is (ltb-true _ _ l) (ltb-true _ _ r)
+fields-proper NodeType.Tagged f good =
+    let (first, most) = both _ _ good in
+    let (l, least) = both (ltb (f .left) (f .own)) _ first in
+    tagged-is (ltb-true _ _ l) (leb-true _ _ least, leb-true _ _ most)
+fields-proper NodeType.Ref f good = ref-is (ltb-true _ _ (both (ltb (f .left) (f .count)) _ good .0))
+fields-proper NodeType.None f good = never good
 
 -- the look-up below the count, and beyond it
 module _ (bytes : List ℕ) (base count n : ℕ) where
@@ -63,7 +58,7 @@ good-nodes bytes base count kinds within few-nodes few-kinds good =
       proper =
           λ n below.
           rw nodes-below
-          (fields-proper kinds count n (typeAt bytes base n) (leftAt bytes base n) (rightAt bytes base n) (good n below));
+          (fields-proper (typeOf (typeAt bytes base n)) _ (good n below));
     }
 
 -- what the tests of a book of good form have shown
@@ -115,3 +110,16 @@ well-formed {bytes} f =
       proper = f .good .proper;
       beyond = λ n beyond. nodes-beyond bytes nodesAt _ n beyond;
     }
+
+-- a book of good form reaches past its settings, and its nodes are all there
+pub settings-within : {bytes : List ℕ} → Formed bytes → nodesAt ≤ length bytes
+settings-within f = omega (arith, f .size)
+
+pub node-within : {bytes : List ℕ} {n : ℕ} → Formed bytes → n < bookOf bytes .count → nodesAt + 6 * n + 6 ≤ length bytes
+unfolding bookOf
+node-within f below = omega (arith, f .size, below)
+
+-- a node of a book, by its bytes
+pub book-node : (bytes : List ℕ) (n : ℕ) → n < bookOf bytes .count → bookOf bytes .node n ≡ nodeAt bytes nodesAt n
+unfolding bookOf
+book-node bytes n below = nodes-below bytes nodesAt _ n below

@@ -1,5 +1,5 @@
 -- The first number at which a test fails: how a search for it goes on, and what its answer says.
-use mathlib.Core.Path.{_≡_, refl}
+use mathlib.Core.Path.{_≡_, refl, _∙_}
 use mathlib.Core.Bool.{Bool, true, false}
 use Prim.Native.Nat.{ℕ, zero, suc, _+_, _-_, _≤_, _<_}
 use native.Mathlib.Decide.{ℕ-discrete}
@@ -57,3 +57,13 @@ module _ (good : ℕ → Bool) where
 
   pub first-none : (count : ℕ) → count ≤ firstBad good count 0 → (n : ℕ) → n < count → good n ≡ true
   first-none count past n below = first-good count 0 (omega arith) n (omega arith) (omega arith)
+
+  -- where each number looked at is good, the search finds none
+  none-found : (left n : ℕ) → ((m : ℕ) → n ≤ m → m < n + left → good m ≡ true) → firstBad good left n ≡ n + left
+  unfolding firstBad
+  none-found zero n each = omega arith
+  none-found (suc left) n each =
+      rw (each n (omega arith) (omega arith)) (none-found left (suc n) (λ m from below. each m (omega arith) (omega arith)) ∙ omega arith)
+
+  pub first-past : (count : ℕ) → ((n : ℕ) → n < count → good n ≡ true) → firstBad good count 0 ≡ count
+  first-past count each = none-found count 0 (λ m from below. each m (omega arith)) ∙ omega arith

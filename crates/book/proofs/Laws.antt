@@ -2,19 +2,20 @@
 use mathlib.Core.Path.{_≡_}
 use mathlib.Core.Bool.{Bool, true, false, cond}
 use mathlib.Core.List.{List}
-use Prim.Native.Nat.{ℕ, _+_, _*_, _%_, _≤_, _<_}
+use Prim.Native.Nat.{ℕ, _≤_, _<_}
 use native.Mathlib.Omega.{arith}
 use borrow.Author.Tests.{leb-true, eqb-true}
 use lib.Dec.{ltb}
 use lib.ListN.{length}
 use Rattle.words.specs.Words.{u16At}
-use Rattle.words.proofs.Tests.{both}
+use Rattle.words.proofs.Tests.{both, fails}
 use Rattle.book.specs.Decode.{nodeGood, firstBad}
-use Rattle.book.specs.Form.{judged, DONE, LENGTH, CONTENTS, SETTINGS, NODE, settingsAt, nodesAt, countOf, lengthGood, contentsGood, settingsGood, nodesForm, formOf}
+use Rattle.forms.specs.Forms.{formSize}
+use Rattle.book.specs.Form.{judged, DONE, LENGTH, CONTENTS, SETTINGS, NODE, bookSections, settingsAt, nodesAt, countOf, lengthGood, contentsGood, settingsGood, nodesForm, formOf}
 
--- a length that is 18 + 6N, for the N that it gives
+-- a length that is that of a book with N nodes, for the N that it gives
 pub record Sized (size : ℕ) : Type 0 where
-  pub is : size ≡ 18 + 6 * countOf size
+  pub is : size ≡ formSize (bookSections (countOf size))
   pub some-node : 0 < countOf size
   pub few-nodes : countOf size ≤ 512
 
@@ -22,10 +23,11 @@ pub sized : (size : ℕ) → lengthGood size ≡ true → Sized size
 sized size good =
     let (ends, whole) = both _ _ good in
     let (least, most) = both _ _ ends in
-    let at-least : 24 ≤ size = leb-true _ _ least in
-    let at-most : size ≤ 3090 = leb-true _ _ most in
-    let sixes : size % 6 ≡ 0 = eqb-true _ _ whole in
-    record { is = omega arith; some-node = omega arith; few-nodes = omega arith }
+    record { is = eqb-true _ _ whole; some-node = leb-true _ _ least; few-nodes = leb-true _ _ most }
+
+-- a length that ends before the nodes is no book's
+pub too-short : (size : ℕ) → size < nodesAt → lengthGood size ≡ false
+too-short size short = fails (lengthGood size) (λ good. omega (arith, short, sized size good))
 
 -- the nodes that the form test looks at
 abbrev pub bad-node : List ℕ → ℕ

@@ -1,4 +1,5 @@
 pub mod Decoded
+pub mod Encoded
 pub mod FirstBad
 pub mod Laws
 mod Types

@@ -31,14 +31,18 @@ rightOf (Then l r) = r
 rightOf (Tagged l t) = 0
 rightOf (Ref l) = 0
 
--- the fields of a node are as the type table has them, for a number of kinds, a count of nodes and the node's own number
+-- a label: 1 to 65,535
+abbrev pub Label : ℕ → Type 0
+Label t = (1 ≤ t) × (t ≤ 65535)
+
+-- a node's fields are as the type table has them, for a number of kinds, a count of nodes and the node's own number
 pub data Proper (kinds count own : ℕ) : Node → Type 0 where
   fail-is : Proper kinds count own Fail
   empty-is : Proper kinds count own Empty
   token-is : {k : ℕ} → k < kinds → Proper kinds count own (Token k)
   either-is : {l r : ℕ} → l < own → r < own → Proper kinds count own (Either l r)
   then-is : {l r : ℕ} → l < own → r < own → Proper kinds count own (Then l r)
-  tagged-is : {l t : ℕ} → l < own → 0 < t → Proper kinds count own (Tagged l t)
+  tagged-is : {l t : ℕ} → l < own → Label t → Proper kinds count own (Tagged l t)
   ref-is : {l : ℕ} → l < count → Proper kinds count own (Ref l)
 
 -- a well-formed book: 1 to 512 nodes over 1 to 64 kinds, the start among them, each node proper, nothing beyond

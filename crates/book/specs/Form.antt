@@ -1,10 +1,11 @@
 -- The form of a book: document 01's numbers 1 to 4.
-use Prim.Native.Nat.{ℕ, _+_, _*_, _-_, _/_, _%_}
+use Prim.Native.Nat.{ℕ, _+_, _*_, _-_, _/_}
 use mathlib.Core.Bool.{Bool, _&&_, cond}
-use mathlib.Core.List.{List}
+use mathlib.Core.List.{List, [], _∷_}
 use lib.Dec.{ltb, leb, eqb}
 use lib.ListN.{length}
 use Rattle.words.specs.Words.{u16At}
+use Rattle.forms.specs.Forms.{sectionAt, formSize, contentsAre}
 use Rattle.book.specs.Book.{Book}
 use Rattle.book.specs.Decode.{nodes, nodeGood, firstBad}
 use Rattle.book.specs.declared.Judged.{Judged}
@@ -25,30 +26,34 @@ SETTINGS = 3
 abbrev pub NODE : ℕ
 NODE = 4
 
--- the offsets of a book's settings and nodes
+-- the sections of a book with so many nodes, by their sizes: settings and nodes
+abbrev pub bookSections : ℕ → List ℕ
+bookSections count = 4 ∷ (6 * count) ∷ []
+
+-- where a book's settings and nodes begin, whatever its count of nodes
 abbrev pub settingsAt : ℕ
-settingsAt = 14
+settingsAt = sectionAt (bookSections 0) 1
 
 abbrev pub nodesAt : ℕ
-nodesAt = 18
+nodesAt = sectionAt (bookSections 0) 2
 
 -- how many nodes a book of a length has
 abbrev pub countOf : ℕ → ℕ
-countOf size = (size - 18) / 6
+countOf size = (size - nodesAt) / 6
 
--- the length is 18 + 6N for an N from 1 to 512
+-- the length is that of a book with N nodes, 18 + 6N, for an N from 1 to 512
 abbrev pub lengthGood : ℕ → Bool
-lengthGood size = leb 24 size && leb size 3090 && eqb (size % 6) 0
+lengthGood size =
+    leb 1 (countOf size) && leb (countOf size) 512 && eqb size (formSize (bookSections (countOf size)))
 
 -- a contents entry: section number, offset, length
 abbrev pub entryIs : List ℕ → ℕ → ℕ → ℕ → ℕ → Bool
 entryIs bytes at section offset size =
     eqb (u16At bytes at) section && eqb (u16At bytes (at + 2)) offset && eqb (u16At bytes (at + 4)) size
 
--- the contents are those fixed by the length: count 2, settings at 14 of length 4, nodes at 18 of length 6N
+-- the contents are those fixed by the length
 abbrev pub contentsGood : List ℕ → Bool
-contentsGood bytes =
-    eqb (u16At bytes 0) 2 && entryIs bytes 2 1 settingsAt 4 && entryIs bytes 8 2 nodesAt (6 * countOf (length bytes))
+contentsGood bytes = contentsAre bytes (bookSections (countOf (length bytes)))
 
 -- settings at an offset, for a count of nodes: 1 to 64 kinds, and a start among the nodes
 abbrev pub settingsGood : List ℕ → ℕ → ℕ → Bool

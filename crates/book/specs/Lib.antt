@@ -1,3 +1,4 @@
 pub mod Book
 pub mod Decode
+pub mod Encode
 pub mod Form

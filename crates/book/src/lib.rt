@@ -1,9 +1,13 @@
-// Books: nodes, and the form of a book, numbers 1 to 4. The nodes' and settings' tests take an offset, since a plan holds both too.
+// Books: nodes, and the form of a book, numbers 1 to 4.
+// The nodes' and settings' tests take an offset, since a plan holds both too.
 ghost use mathlib.Core.Path.{_≡_};
+ghost use mathlib.Core.Bool.{true};
 ghost use Prim.Native.Nat.{_+_, _*_, _-_, _≤_, _<_};
 ghost use lib.ListN.{length};
-ghost use Rattle.book.specs.Decode.{nodeOf, fieldsGood, nodeAt, nodeGood, firstBad};
-ghost use Rattle.book.specs.Form.{countOf, lengthGood, entryIs, contentsGood, settingsGood, formOf};
+ghost use Rattle.book.specs.Decode.{typeOf, typedNode, fieldsGood, nodeAt, nodeGood, firstBad};
+ghost use Rattle.book.specs.Decode.{failRule, emptyRule, tokenRule, eitherRule, thenRule, taggedRule, refRule};
+ghost use Rattle.book.specs.Form.{nodesAt, countOf, lengthGood, entryIs, contentsGood, settingsGood, formOf, bookOf, DONE};
+use forms::contents_are;
 use words::u16_at;
 
 // A node of a book, by document 01's type table. Bytes that are no node never come past the form test.
@@ -17,42 +21,121 @@ pub enum Node {
     Ref(usize),
 }
 
-// The node that a type, a left and a right are.
-fn node_of(kind: usize, left: usize, right: usize) -> Node
-    ensures { λ r. ⌜ r ≡ nodeOf kind left right ⌝ }
+// A node's type, by its number in document 01's type table; `None` for a number that is no type.
+pub enum NodeType {
+    Fail,
+    Empty,
+    Token,
+    Either,
+    Then,
+    Tagged,
+    Ref,
+    None,
+}
+
+// The left and the right of a node, and what they are held against: how many kinds and nodes there are, its own number.
+pub struct Fields {
+    pub kinds: usize,
+    pub count: usize,
+    pub own: usize,
+    pub left: usize,
+    pub right: usize,
+}
+
+// The type with a number.
+fn type_of(number: usize) -> NodeType
+    ensures { λ r. ⌜ r ≡ typeOf number ⌝ }
 {
-    match kind {
-        0 => Node::Fail,
-        1 => Node::Empty,
-        2 => Node::Token(left),
-        3 => Node::Either(left, right),
-        4 => Node::Then(left, right),
-        5 => Node::Tagged(left, right),
-        6 => Node::Ref(left),
-        _ => Node::Fail,
+    match number {
+        0 => NodeType::Fail,
+        1 => NodeType::Empty,
+        2 => NodeType::Token,
+        3 => NodeType::Either,
+        4 => NodeType::Then,
+        5 => NodeType::Tagged,
+        6 => NodeType::Ref,
+        _ => NodeType::None,
     }
 }
 
-// Whether left and right are those of a node of the type, by the type table.
-fn fields_good(
-    kinds: usize,
-    count: usize,
-    own: usize,
-    kind: usize,
-    left: usize,
-    right: usize,
-) -> bool
-    ensures { λ r. ⌜ r ≡ fieldsGood kinds count own kind left right ⌝ }
+// The node of a type with a left and a right.
+fn typed_node(of: NodeType, left: usize, right: usize) -> Node
+    ensures { λ r. ⌜ r ≡ typedNode of left right ⌝ }
 {
-    match kind {
-        0 => (left == 0) & (right == 0),
-        1 => (left == 0) & (right == 0),
-        2 => (left < kinds) & (right == 0),
-        3 => (left < own) & (right < own),
-        4 => (left < own) & (right < own),
-        5 => (left < own) & (0 < right),
-        6 => (left < count) & (right == 0),
-        _ => false,
+    match of {
+        NodeType::Fail => Node::Fail,
+        NodeType::Empty => Node::Empty,
+        NodeType::Token => Node::Token(left),
+        NodeType::Either => Node::Either(left, right),
+        NodeType::Then => Node::Then(left, right),
+        NodeType::Tagged => Node::Tagged(left, right),
+        NodeType::Ref => Node::Ref(left),
+        NodeType::None => Node::Fail,
+    }
+}
+
+// Fail: left 0, right 0.
+fn fail_rule(f: Fields) -> bool
+    ensures { λ r. ⌜ r ≡ failRule f ⌝ }
+{
+    (f.left == 0) & (f.right == 0)
+}
+
+// Empty: left 0, right 0.
+fn empty_rule(f: Fields) -> bool
+    ensures { λ r. ⌜ r ≡ emptyRule f ⌝ }
+{
+    (f.left == 0) & (f.right == 0)
+}
+
+// Token: left a kind, below K; right 0.
+fn token_rule(f: Fields) -> bool
+    ensures { λ r. ⌜ r ≡ tokenRule f ⌝ }
+{
+    (f.left < f.kinds) & (f.right == 0)
+}
+
+// Either: left and right lower nodes.
+fn either_rule(f: Fields) -> bool
+    ensures { λ r. ⌜ r ≡ eitherRule f ⌝ }
+{
+    (f.left < f.own) & (f.right < f.own)
+}
+
+// Then: left and right lower nodes.
+fn then_rule(f: Fields) -> bool
+    ensures { λ r. ⌜ r ≡ thenRule f ⌝ }
+{
+    (f.left < f.own) & (f.right < f.own)
+}
+
+// Tagged: left a lower node, right a label, 1 to 65,535.
+fn tagged_rule(f: Fields) -> bool
+    ensures { λ r. ⌜ r ≡ taggedRule f ⌝ }
+{
+    (f.left < f.own) & (1 <= f.right) & (f.right <= 65535)
+}
+
+// Ref: left any node, right 0.
+fn ref_rule(f: Fields) -> bool
+    ensures { λ r. ⌜ r ≡ refRule f ⌝ }
+{
+    (f.left < f.count) & (f.right == 0)
+}
+
+// Whether fields are those of a node of a type, by the type table.
+fn fields_good(of: NodeType, f: Fields) -> bool
+    ensures { λ r. ⌜ r ≡ fieldsGood of f ⌝ }
+{
+    match of {
+        NodeType::Fail => fail_rule(f),
+        NodeType::Empty => empty_rule(f),
+        NodeType::Token => token_rule(f),
+        NodeType::Either => either_rule(f),
+        NodeType::Then => then_rule(f),
+        NodeType::Tagged => tagged_rule(f),
+        NodeType::Ref => ref_rule(f),
+        NodeType::None => false,
     }
 }
 
@@ -62,8 +145,8 @@ pub fn node_at(bytes: &[u8], base: usize, n: usize) -> Node
     ensures { λ r. ⌜ r ≡ nodeAt (now (bytes .entry)) base n ⌝ }
 {
     let at = base + 6 * n;
-    node_of(
-        u16_at(bytes, at),
+    typed_node(
+        type_of(u16_at(bytes, at)),
         u16_at(bytes, at + 2),
         u16_at(bytes, at + 4),
     )
@@ -76,12 +159,14 @@ pub fn node_good(bytes: &[u8], base: usize, kinds: usize, count: usize, n: usize
 {
     let at = base + 6 * n;
     fields_good(
-        kinds,
-        count,
-        n,
-        u16_at(bytes, at),
-        u16_at(bytes, at + 2),
-        u16_at(bytes, at + 4),
+        type_of(u16_at(bytes, at)),
+        Fields {
+            kinds: kinds,
+            count: count,
+            own: n,
+            left: u16_at(bytes, at + 2),
+            right: u16_at(bytes, at + 4),
+        },
     )
 }
 
@@ -119,30 +204,32 @@ pub fn settings_good(bytes: &[u8], at: usize, count: usize) -> bool
     (1 <= kinds) & (kinds <= 64) & (u16_at(bytes, at + 2) < count)
 }
 
-// Whether a length is that of a book: 18 + 6N for an N from 1 to 512.
-fn length_good(size: usize) -> bool
-    ensures { λ r. ⌜ r ≡ lengthGood size ⌝ }
-{
-    (24 <= size) & (size <= 3090) & (size % 6 == 0)
-}
-
 // How many nodes a book of a length has.
 pub fn count_of(size: usize) -> usize
-    requires { ⌜ 18 ≤ size ⌝ }
+    requires { ⌜ nodesAt ≤ size ⌝ }
     ensures { λ r. ⌜ r ≡ countOf size ⌝ }
 {
     (size - NODES_AT) / 6
 }
 
+// Whether a length is that of a book: 18 + 6N for an N from 1 to 512.
+fn length_good(size: usize) -> bool
+    ensures { λ r. ⌜ r ≡ lengthGood size ⌝ }
+{
+    if size < NODES_AT {
+        return false;
+    }
+    let count = count_of(size);
+    (1 <= count) & (count <= 512) & (size == NODES_AT + 6 * count)
+}
+
 // Whether a book's contents are those fixed by its length.
 fn contents_good(bytes: &[u8]) -> bool
-    requires { ⌜ 24 ≤ length (now bytes) ⌝ }
+    requires { ⌜ lengthGood (length (now bytes)) ≡ true ⌝ }
     ensures { λ r. ⌜ r ≡ contentsGood (now (bytes .entry)) ⌝ }
 {
-    let nodes_size = 6 * count_of(bytes.len());
-    (u16_at(bytes, 0) == 2)
-        & entry_is(bytes, 2, 1, SETTINGS_AT, 4)
-        & entry_is(bytes, 8, 2, NODES_AT, nodes_size)
+    let sizes = [4, 6 * count_of(bytes.len())];
+    contents_are(bytes, &sizes)
 }
 
 // Where a book's settings and nodes begin.
@@ -202,4 +289,36 @@ pub fn form(bytes: &[u8]) -> Judged
         number: DONE,
         place: 0,
     }
+}
+
+// How many nodes a book of good form has.
+pub fn count_in(book: &[u8]) -> usize
+    requires { ⌜ formOf (now book) .number ≡ DONE ⌝ }
+    ensures { λ r. ⌜ r ≡ bookOf (now (book .entry)) .count ⌝ }
+{
+    count_of(book.len())
+}
+
+// How many kinds a book of good form has.
+pub fn kinds_in(book: &[u8]) -> usize
+    requires { ⌜ formOf (now book) .number ≡ DONE ⌝ }
+    ensures { λ r. ⌜ r ≡ bookOf (now (book .entry)) .kinds ⌝ }
+{
+    u16_at(book, SETTINGS_AT)
+}
+
+// The start of a book of good form.
+pub fn start_in(book: &[u8]) -> usize
+    requires { ⌜ formOf (now book) .number ≡ DONE ⌝ }
+    ensures { λ r. ⌜ r ≡ bookOf (now (book .entry)) .start ⌝ }
+{
+    u16_at(book, SETTINGS_AT + 2)
+}
+
+// The node with a number, of a book of good form.
+pub fn node_in(book: &[u8], n: usize) -> Node
+    requires { ⌜ (formOf (now book) .number ≡ DONE) × (n < bookOf (now book) .count) ⌝ }
+    ensures { λ r. ⌜ r ≡ bookOf (now (book .entry)) .node n ⌝ }
+{
+    node_at(book, NODES_AT, n)
 }

@@ -1,6 +1,5 @@
 mod Answers
-mod Bounds
+pub mod Unique
+pub mod Some
 pub mod Promise
 pub mod ShutOut
-pub mod Some
-pub mod Unique

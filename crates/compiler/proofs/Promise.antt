@@ -11,22 +11,24 @@ use mathlib.Core.Logic.{_↔_, _≢_}
 use mathlib.Core.List.{List, _++_}
 use Rattle.words.specs.Words.{zeros}
 use Rattle.book.specs.Form.{DONE, formOf, bookOf}
-use Rattle.book.proofs.Laws.{form-listed}
 use Rattle.book.proofs.Decoded.{Formed, formed}
-use Rattle.plan.specs.Cells.{Marks, Marked, cellOf}
+use Rattle.grammar.specs.Passing.{Fruitful, NoConflict, Passes}
+use Rattle.verdict.specs.declared.Verdict.{Verdict}
+use Rattle.verdict.specs.Judges.{judgement, Judges, passes}
+use Rattle.verdict.proofs.Passing as verdict
+use Rattle.verdict.proofs.Unique.{judges-unique}
+use Rattle.running.specs.Cells.{Marks, Marked, cellOf}
 use Rattle.plan.specs.Form.{rowAt, planSize, cellAt}
-use Rattle.plan.proofs.PlanBytes.{size-is, cell-is, mark-is}
-use Rattle.plan.specs.Bytes.{planBytes}
+use Rattle.plan.proofs.Laws.{size-small}
+use Rattle.writer.proofs.PlanBytes.{size-is, cell-is, mark-is}
+use Rattle.writer.specs.Bytes.{planBytes}
 use Rattle.compiler.specs.declared.Compiled.{Compiled}
-use Rattle.grammar.specs.Passing.{Fruitful, Free}
-use Rattle.compiler.specs.Compiles.{Compiles, malformed, barren, conflict, no-room, done, PLAN-ROOM, sizeOf}
-use Rattle.compiler.proofs.Unique.{reported-conflict, marks-unique}
+use Rattle.compiler.specs.Compiles.{Compiles, refused, no-room, done, PLAN-ROOM, sizeOf}
+use Rattle.compiler.proofs.Unique.{marks-unique}
 
 -- what is so where a book passes
 pub record Passed (bytes : List ℕ) (room : ℕ) (plan : List ℕ) : Type 0 where
-  pub form : formOf bytes .number ≡ DONE
-  pub fruitful : Fruitful (bookOf bytes)
-  pub free : Free (bookOf bytes)
+  pub judges : Judges bytes (judgement DONE 0 0)
   pub fits : sizeOf (bookOf bytes) ≤ room
   pub marks : Marks
   pub marked : Marked (bookOf bytes .node) marks
@@ -34,66 +36,80 @@ pub record Passed (bytes : List ℕ) (room : ℕ) (plan : List ℕ) : Type 0 whe
 
 module _ {bytes : List ℕ} {room : ℕ} where
   pub passed : {a : Compiled} {p : List ℕ} → Compiles bytes room a p → a .number ≡ DONE → Passed bytes room p
-  passed (malformed f) e = absurd (f e)
-  passed (barren _ _) e = absurd (omega arith)
-  passed (conflict _ _ _ _ _) e = absurd (omega arith)
-  passed (no-room _ _ _ _) e = absurd (omega arith)
-  passed (done {marks} form fruitful free fits marked) e =
-      record { form = form; fruitful = fruitful; free = free; fits = fits; marks = marks; marked = marked; plan-is = refl }
+  passed (refused _ bad) is = absurd (bad is)
+  passed (no-room _ _) is = absurd (omega arith)
+  passed (done {marks} judges fits marked) is =
+      record { judges = judges; fits = fits; marks = marks; marked = marked; plan-is = refl }
 
-  -- a well-formed book whose start can produce some run, with no reachable conflict, passes where there is room enough
-  pub free-passes : {a : Compiled} {p : List ℕ}
-      → Compiles bytes room a p
-      → formOf bytes .number ≡ DONE
-      → sizeOf (bookOf bytes) ≤ room
-      → Fruitful (bookOf bytes) × Free (bookOf bytes)
+  module _ {a : Compiled} {p : List ℕ} (c : Compiles bytes room a p) (is : a .number ≡ DONE) where
+    -- it is of good form
+    pub passed-form : formOf bytes .number ≡ DONE
+    passed-form = verdict.passed (passed c is .judges) refl .form
+
+    -- and passes by the rules
+    pub passed-passes : Passes (bookOf bytes)
+    passed-passes = verdict.passed (passed c is .judges) refl .by-rules
+
+    -- its plan is the one that the rules give
+    pub passed-plan : {marks : Marks} → Marked (bookOf bytes .node) marks → p ≡ planBytes bytes marks ++ zeros (room - sizeOf (bookOf bytes))
+    passed-plan marked = rw (marks-unique marked (passed c is .marked)) (passed c is .plan-is)
+
+  -- given plan room enough, compiling says what judging says, of a book that passes
+  room-passes : {a : Compiled} {p : List ℕ} → Compiles bytes room a p → sizeOf (bookOf bytes) ≤ room → Judges bytes (judgement DONE 0 0)
       → a .number ≡ DONE
-  free-passes (malformed f) e fits h = absurd (f e)
-  free-passes (barren _ b) e fits h = absurd (b (h .0))
-  free-passes (conflict _ _ _ reach shared) e fits h = absurd (h .1 _ reach (reported-conflict shared))
-  free-passes (no-room _ _ _ small) e fits h = absurd (omega arith)
-  free-passes (done _ _ _ _ _) e fits h = refl
+  room-passes (refused judges bad) fits good = absurd (bad (ap (λ (v : Verdict). v .number) (judges-unique judges good)))
+  room-passes (no-room _ short) fits good = absurd (omega arith)
+  room-passes (done _ _ _) fits good = refl
 
   -- given plan room enough, a well-formed book passes exactly when its start can produce some run and no reachable node has a conflict
   pub passes-exactly : {a : Compiled} {p : List ℕ}
       → Compiles bytes room a p
       → formOf bytes .number ≡ DONE
       → sizeOf (bookOf bytes) ≤ room
-      → (a .number ≡ DONE) ↔ (Fruitful (bookOf bytes) × Free (bookOf bytes))
-  passes-exactly c e fits = (λ d. (passed c d .fruitful, passed c d .free), free-passes c e fits)
+      → (a .number ≡ DONE) ↔ (Fruitful (bookOf bytes) × NoConflict (bookOf bytes))
+  passes-exactly c form fits = (
+    (λ is. let by-rules = passed-passes c is in (by-rules .productive, by-rules .no-conflict)),
+    (λ h. room-passes c fits (passes form (h .0) (h .1))),
+  )
 
-  -- the plan of a book that passes is the one that the rules give
-  pub passed-plan : {a : Compiled} {p : List ℕ}
-      → Compiles bytes room a p
-      → a .number ≡ DONE
-      → {marks : Marks}
-      → Marked (bookOf bytes .node) marks
-      → p ≡ planBytes bytes marks ++ zeros (room - sizeOf (bookOf bytes))
-  passed-plan c d marked = rw (marks-unique marked (passed c d .marked)) (passed c d .plan-is)
+-- the size of the plan of a book that passes
+plan-small : (bytes : List ℕ) → Judges bytes (judgement DONE 0 0) → sizeOf (bookOf bytes) ≤ 36376
+plan-small bytes judges =
+    let book = verdict.passed judges refl .by-rules .well-formed in
+    size-small (bookOf bytes .count) (bookOf bytes .kinds) (book .few-nodes) (book .few-kinds)
 
 -- every answer's number is on the list: 0 to 7
 pub answer-listed : {bytes : List ℕ} {room : ℕ} {a : Compiled} {p : List ℕ} → Compiles bytes room a p → a .number ≤ PLAN-ROOM
-answer-listed {bytes} (malformed _) = omega (arith, form-listed bytes)
-answer-listed (barren _ _) = omega arith
-answer-listed (conflict _ _ _ _ _) = omega arith
-answer-listed (no-room _ _ _ _) = omega arith
-answer-listed (done _ _ _ _ _) = omega arith
+answer-listed (refused judges _) = omega (arith, verdict.verdict-listed judges)
+answer-listed (no-room _ _) = omega arith
+answer-listed (done _ _ _) = omega arith
 
 -- the size answered for a book that passes is its plan's
 pub passed-size : {bytes : List ℕ} {room : ℕ} {a : Compiled} {p : List ℕ} → Compiles bytes room a p → a .number ≡ DONE → a .size ≡ sizeOf (bookOf bytes)
-passed-size (malformed bad) is = absurd (bad is)
-passed-size (barren _ _) is = absurd (omega arith)
-passed-size (conflict _ _ _ _ _) is = absurd (omega arith)
-passed-size (no-room _ _ _ _) is = absurd (omega arith)
-passed-size (done _ _ _ _ _) is = refl
+passed-size (refused _ bad) is = absurd (bad is)
+passed-size (no-room _ _) is = absurd (omega arith)
+passed-size (done _ _ _) is = refl
+
+-- a plan has at most 36,376 bytes
+pub size-most : {bytes : List ℕ} {room : ℕ} {a : Compiled} {p : List ℕ} → Compiles bytes room a p → a .size ≤ 36376
+size-most (refused _ _) = omega arith
+size-most {bytes} (no-room judges _) = plan-small bytes judges
+size-most {bytes} (done judges _ _) = plan-small bytes judges
+
+-- PLAN ROOM is answered only for a book of good form whose plan is larger than the room
+pub room-short : {bytes : List ℕ} {room : ℕ} {a : Compiled} {p : List ℕ}
+    → Compiles bytes room a p
+    → a .number ≡ PLAN-ROOM
+    → (formOf bytes .number ≡ DONE) × (room < sizeOf (bookOf bytes))
+room-short (refused judges _) is = absurd (omega (arith, verdict.verdict-listed judges))
+room-short (no-room judges short) is = (verdict.passed judges refl .form, short)
+room-short (done _ _ _) is = absurd (omega arith)
 
 -- a refusal leaves the plan buffer as zeros
 pub refused-clear : {bytes : List ℕ} {room : ℕ} {a : Compiled} {p : List ℕ} → Compiles bytes room a p → a .number ≢ DONE → p ≡ zeros room
-refused-clear (malformed _) refused = refl
-refused-clear (barren _ _) refused = refl
-refused-clear (conflict _ _ _ _ _) refused = refl
-refused-clear (no-room _ _ _ _) refused = refl
-refused-clear (done _ _ _ _ _) refused = absurd (refused refl)
+refused-clear (refused _ _) bad = refl
+refused-clear (no-room _ _) bad = refl
+refused-clear (done _ _ _) bad = absurd (bad refl)
 
 -- the plan's bytes are as many as its size
 pub plan-long : (bytes : List ℕ) (marks : Marks) → Formed bytes → length (planBytes bytes marks) ≡ sizeOf (bookOf bytes)
@@ -102,13 +118,11 @@ plan-long bytes marks form = size-is bytes marks form
 
 -- the plan buffer keeps its length
 pub room-kept : {bytes : List ℕ} {room : ℕ} {a : Compiled} {p : List ℕ} → Compiles bytes room a p → length p ≡ room
-room-kept {room = room} (malformed _) = length-replicate room 0
-room-kept {room = room} (barren _ _) = length-replicate room 0
-room-kept {room = room} (conflict _ _ _ _ _) = length-replicate room 0
-room-kept {room = room} (no-room _ _ _ _) = length-replicate room 0
-room-kept {bytes} {room} (done {marks} form _ _ fits _) =
+room-kept {room = room} (refused _ _) = length-replicate room 0
+room-kept {room = room} (no-room _ _) = length-replicate room 0
+room-kept {bytes} {room} (done {marks} judges fits _) =
     length-append (planBytes bytes marks) (zeros (room - sizeOf (bookOf bytes)))
-    ∙ omega (arith, plan-long bytes marks (formed bytes form), length-replicate {A = ℕ} (room - sizeOf (bookOf bytes)) 0)
+    ∙ omega (arith, plan-long bytes marks (formed bytes (verdict.passed judges refl .form)), length-replicate {A = ℕ} (room - sizeOf (bookOf bytes)) 0)
 
 -- the cells of a plan stand within it
 cell-within : (count kinds n column : ℕ) → n < count → column < kinds + 1 → rowAt count kinds n + column < planSize count kinds
@@ -118,7 +132,7 @@ cell-within count kinds n column below within =
 module _ {bytes : List ℕ} {room : ℕ} {a : Compiled} {p : List ℕ}
     (c : Compiles bytes room a p) (good : a .number ≡ DONE) {marks : Marks} (marked : Marked (bookOf bytes .node) marks) where
   form : Formed bytes
-  form = formed bytes (passed c good .form)
+  form = formed bytes (passed-form c good)
 
   cell-first : (n column : ℕ)
       → n < bookOf bytes .count

@@ -11,12 +11,12 @@ use Rattle.book.specs.Decode.{nodes, nodeAt, nodeGood, firstBad}
 use Rattle.book.specs.Form.{DONE, formOf, bookOf}
 use Rattle.grammar.specs.Rules.{p-empty}
 use Rattle.rules.proofs.Growing.{blank-zeros}
-use Rattle.plan.specs.Cells.{Marks}
-use Rattle.plan.specs.Bytes.{planBytes, planContents, wordBytes}
+use Rattle.running.specs.Cells.{Marks}
+use Rattle.writer.specs.Bytes.{planBytes, planContents, wordBytes}
 use Rattle.compiler.specs.declared.Compiled.{Compiled}
-use Rattle.grammar.specs.Passing.{Fruitful, Free}
+use Rattle.grammar.specs.Passing.{Fruitful, NoConflict}
 use Rattle.compiler.specs.Compiles.{Compiles, sizeOf}
-use Rattle.compiler.proofs.Promise.{passed, free-passes}
+use Rattle.compiler.proofs.Promise.{passed, passed-passes, passes-exactly}
 
 -- a book of one node of a type with no fields, over one kind
 abbrev lone : ℕ → List ℕ
@@ -34,10 +34,10 @@ empty-fruitful : Fruitful (bookOf (lone 1))
 unfolding bookOf nodes nodeAt u16At
 empty-fruitful = p-empty
 
-empty-free : Free (bookOf (lone 1))
+empty-no-conflict : NoConflict (bookOf (lone 1))
 unfolding bookOf nodes nodeAt u16At
-empty-free zero reach = elim [ ]
-empty-free (suc m) reach = rw (le-ltb (suc m) 1 (omega arith)) (elim [ ])
+empty-no-conflict zero reach = elim [ ]
+empty-no-conflict (suc m) reach = rw (le-ltb (suc m) 1 (omega arith)) (elim [ ])
 
 fail-barren : Fruitful (bookOf (lone 0)) → ⊥
 unfolding bookOf nodes nodeAt u16At
@@ -54,7 +54,7 @@ module _
     (meets : (bytes : List ℕ) (room : ℕ) → Compiles bytes room (answers bytes room) (plans bytes room)) where
   -- a book of one node that is empty passes
   empty-passes : answers (lone 1) (sizeOf (bookOf (lone 1))) .number ≡ DONE
-  empty-passes = free-passes (meets _ _) empty-formed (omega arith) (empty-fruitful, empty-free)
+  empty-passes = passes-exactly {room = sizeOf (bookOf (lone 1))} (meets _ _) empty-formed (omega arith) .1 (empty-fruitful, empty-no-conflict)
 
   -- a compiler does not refuse every well-formed book with room enough
   pub not-all-refused :
@@ -65,7 +65,7 @@ module _
   pub not-all-passed :
       ((bytes : List ℕ) (room : ℕ) → formOf bytes .number ≡ DONE → sizeOf (bookOf bytes) ≤ room → answers bytes room .number ≡ DONE) → ⊥
   not-all-passed passes =
-      fail-barren (passed (meets _ _) (passes (lone 0) (sizeOf (bookOf (lone 0))) fail-formed (omega arith)) .fruitful)
+      fail-barren (passed-passes (meets _ _) (passes (lone 0) (sizeOf (bookOf (lone 0))) fail-formed (omega arith)) .productive)
 
   -- nor leaves the plan buffer clear for every book
   pub not-all-clear : ((bytes : List ℕ) (room : ℕ) → plans bytes room ≡ zeros room) → ⊥

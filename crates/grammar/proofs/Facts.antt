@@ -1,7 +1,7 @@
 -- What the rules' facts say of runs: nullable iff the empty run is derived, productive iff some run is, a kind in FIRST iff a run that
--- begins with it is.
+-- begins with it is; a kind that should not follow goes on from a run derived to a longer one.
 use Prim.Native.Nat.{ℕ}
-use mathlib.Core.List.{List, [], _∷_, _++_}
+use mathlib.Core.List.{List, [], _∷_, _++_, append-nil, append-assoc}
 use mathlib.Core.Logic.{_↔_}
 use Rattle.book.specs.declared.Node.{Node}
 use Rattle.book.specs.declared.Node.the-variants.{Then}
@@ -9,7 +9,7 @@ use Rattle.grammar.specs.Rules.{Productive, p-empty, p-token, p-left, p-
 use Rattle.grammar.specs.Rules.{Nullable, n-empty, n-left, n-right, n-then, n-tagged, n-ref}
 use Rattle.grammar.specs.Rules.{First, f-token, f-left, f-right, f-hold, f-skip, f-tagged, f-ref}
 use Rattle.grammar.specs.Rules.{Snf, s-left, s-right, s-first-left, s-first-right, s-then-left, s-then-right, s-tagged, s-ref}
-use Rattle.grammar.specs.Derivations.{Derives, d-empty, d-token, d-left, d-right, d-then, d-tagged, d-ref}
+use Rattle.grammar.specs.Derivations.{Derives, d-empty, d-token, d-left, d-right, d-then, d-tagged, d-ref, Extends}
 
 -- how a run that a node derives begins: the node is nullable if it does not, else the first kind is in FIRST
 abbrev pub Opens : (ℕ → Node) → Node → List ℕ → Type 0
@@ -33,17 +33,6 @@ module _ {node : ℕ → Node} where
   first-productive (f-skip a d) = p-then (nullable-productive a) (first-productive d)
   first-productive (f-tagged d) = p-tagged (first-productive d)
   first-productive (f-ref d) = p-ref (first-productive d)
-
-  -- a kind in FIRST of a nullable node should not follow it
-  pub nullable-first-snf : {top : Node} {k : ℕ} → Nullable node top → First node top k → Snf node top k
-  nullable-first-snf (n-left a) (f-left d) = s-left (nullable-first-snf a d)
-  nullable-first-snf (n-left a) (f-right d) = s-first-right a d
-  nullable-first-snf (n-right a) (f-left d) = s-first-left d a
-  nullable-first-snf (n-right a) (f-right d) = s-right (nullable-first-snf a d)
-  nullable-first-snf (n-then a b) (f-hold d p) = s-then-left (nullable-first-snf a d) b
-  nullable-first-snf (n-then a b) (f-skip c d) = s-then-right (nullable-productive a) (nullable-first-snf b d)
-  nullable-first-snf (n-tagged a) (f-tagged d) = s-tagged (nullable-first-snf a d)
-  nullable-first-snf (n-ref a) (f-ref d) = s-ref (nullable-first-snf a d)
 
   pub nullable-derives-empty : {top : Node} → Nullable node top → Derives node top []
   nullable-derives-empty n-empty = d-empty
@@ -87,6 +76,48 @@ module _ {node : ℕ → Node} where
       (s .0, d-then (nullable-derives-empty a) (s .1))
   first-derives (f-tagged d) = let s = first-derives d in (s .0, d-tagged (s .1))
   first-derives (f-ref d) = let s = first-derives d in (s .0, d-ref (s .1))
+
+  extends-as : {a b : Node} {k : ℕ} → ((xs : List ℕ) → Derives node a xs → Derives node b xs) → Extends node a k → Extends node b k
+  extends-as f h = record {
+    shorter = h .shorter;
+    rest = h .rest;
+    derives-shorter = f _ (h .derives-shorter);
+    derives-longer = f _ (h .derives-longer);
+  }
+
+  extends-empty : {top : Node} {k : ℕ} → Derives node top [] → (xs : List ℕ) × Derives node top (k ∷ xs) → Extends node top k
+  extends-empty d e = record { shorter = []; rest = e .0; derives-shorter = d; derives-longer = e .1 }
+
+  pub snf-extends : {top : Node} {k : ℕ} → Snf node top k → Extends node top k
+  snf-extends (s-left h) = extends-as (λ xs. d-left) (snf-extends h)
+  snf-extends (s-right h) = extends-as (λ xs. d-right) (snf-extends h)
+  snf-extends (s-first-left d b) = let s = first-derives d in extends-empty (d-right (nullable-derives-empty b)) (s .0, d-left (s .1))
+  snf-extends (s-first-right a d) = let s = first-derives d in extends-empty (d-left (nullable-derives-empty a)) (s .0, d-right (s .1))
+  snf-extends (s-then-left {l} {r} h b) =
+      let e = nullable-derives-empty b in
+      extends-as (λ xs d. rw (append-nil xs) at (d-then {l = l} {r = r} d e)) (snf-extends h)
+  snf-extends (s-then-right {k = k} p h) =
+      let s = productive-derives p in
+      let t = snf-extends h in
+      record {
+        shorter = s .0 ++ t .shorter;
+        rest = t .rest;
+        derives-shorter = d-then (s .1) (t .derives-shorter);
+        derives-longer = rw (append-assoc (s .0) (t .shorter) (k ∷ t .rest)) (d-then (s .1) (t .derives-longer));
+      }
+  snf-extends (s-tagged h) = extends-as (λ xs. d-tagged) (snf-extends h)
+  snf-extends (s-ref h) = extends-as (λ xs. d-ref) (snf-extends h)
+
+  -- a kind in FIRST of a nullable node should not follow it
+  pub nullable-first-snf : {top : Node} {k : ℕ} → Nullable node top → First node top k → Snf node top k
+  nullable-first-snf (n-left a) (f-left d) = s-left (nullable-first-snf a d)
+  nullable-first-snf (n-left a) (f-right d) = s-first-right a d
+  nullable-first-snf (n-right a) (f-left d) = s-first-left d a
+  nullable-first-snf (n-right a) (f-right d) = s-right (nullable-first-snf a d)
+  nullable-first-snf (n-then a b) (f-hold d p) = s-then-left (nullable-first-snf a d) b
+  nullable-first-snf (n-then a b) (f-skip c d) = s-then-right (nullable-productive a) (nullable-first-snf b d)
+  nullable-first-snf (n-tagged a) (f-tagged d) = s-tagged (nullable-first-snf a d)
+  nullable-first-snf (n-ref a) (f-ref d) = s-ref (nullable-first-snf a d)
 
   opens-as : {a b : Node} (xs : List ℕ) → (Nullable node a → Nullable node b) → ((k : ℕ) → First node a k → First node b k)
       → Opens node a xs → Opens node b xs

@@ -1,138 +1,114 @@
--- The only derivation there is: two derivations of one run from a node without a conflict below are the same, with nothing collapsed.
+-- The only derivation there is: two derivations of one run from a node without a conflict below are equal. Two derivations of beginnings of
+-- one run are taken side by side with what follows each: they are equal, or the kind behind the shorter should not follow. So SNF there is
+-- exactly the kinds that take a run on to a longer one.
 use Prim.Native.Nat.{ℕ}
-use mathlib.Core.Path.{_≡_, refl}
-use mathlib.Core.List.{List, [], _∷_, _++_, append-assoc, tail-eq-of-cons-eq}
+use native.Mathlib.Nat.{ℕ-set}
+use mathlib.Core.Path.{_≡_, PathP, refl, sym, subst, _∙_}
+use mathlib.Core.Logic.{_↔_}
+use mathlib.Core.List.{List, [], _∷_, _++_, List·isSet, append-nil, append-assoc, head-eq-of-cons-eq, tail-eq-of-cons-eq}
 use Rattle.book.specs.Book.{Book}
 use Rattle.book.specs.declared.Node.{Node}
-use Rattle.book.specs.declared.Node.the-variants.{Empty, Token, Either, Then, Tagged, Ref}
-use Rattle.grammar.specs.Rules.{Productive, Reach, c-nullable, c-first, c-follow}
-use Rattle.grammar.specs.Rules.{Nullable, n-empty, n-left, n-right, n-then, n-tagged, n-ref}
-use Rattle.grammar.specs.Rules.{First, f-token, f-left, f-right, f-hold, f-skip, f-tagged, f-ref}
+use Rattle.book.specs.declared.Node.the-variants.{Either, Then}
+use Rattle.grammar.specs.Rules.{Reach, c-nullable, c-first, c-follow}
 use Rattle.grammar.specs.Rules.{Snf, s-left, s-right, s-first-left, s-first-right, s-then-left, s-then-right, s-tagged, s-ref}
 use Rattle.grammar.specs.Rules.{either-left, either-right, then-left, then-right, tagged-left, ref-left}
-use Rattle.grammar.specs.Derivations.{Derives, d-empty, d-token, d-left, d-right, d-then, d-tagged, d-ref}
-use Rattle.grammar.specs.Derivations.{Full, full-empty, full-token, full-left, full-right, full-then, full-tagged, full-ref, full}
+use Rattle.grammar.specs.Derivations.{Derives, d-empty, d-token, d-left, d-right, d-then, d-tagged, d-ref, Extends}
 use Rattle.grammar.specs.Passing.{Passes}
-use Rattle.grammar.proofs.Facts.{nullable-productive, first-productive}
+use Rattle.grammar.proofs.Facts.{Opens, derives-productive, derives-opens, snf-extends}
 use Rattle.grammar.proofs.Clear.{Clear, clear-child, clear-here, passes-clear}
 
--- a derivation with what follows it: the node of a number derives what stands before the second run in the first
-data Spans (node : ℕ → Node) : ℕ → Node → List ℕ → List ℕ → Full → Type 0 where
-  spans-empty : {n : ℕ} {u : List ℕ} → Spans node n Empty u u (full-empty n)
-  spans-token : {n k : ℕ} {u : List ℕ} → Spans node n (Token k) (k ∷ u) u (full-token n k)
-  spans-left : {n l r : ℕ} {w u : List ℕ} {f : Full} → Spans node l (node l) w u f → Spans node n (Either l r) w u (full-left n f)
-  spans-right : {n l r : ℕ} {w u : List ℕ} {f : Full} → Spans node r (node r) w u f → Spans node n (Either l r) w u (full-right n f)
-  spans-then : {n l r : ℕ} {w m u : List ℕ} {f g : Full} → Spans node l (node l) w m f → Spans node r (node r) m u g
-      → Spans node n (Then l r) w u (full-then n f g)
-  spans-tagged : {n l t : ℕ} {w u : List ℕ} {f : Full} → Spans node l (node l) w u f → Spans node n (Tagged l t) w u (full-tagged n f)
-  spans-ref : {n l : ℕ} {w u : List ℕ} {f : Full} → Spans node l (node l) w u f → Spans node n (Ref l) w u (full-ref n f)
+-- a run with a derivation of it from a node
+abbrev Derived : (ℕ → Node) → Node → Type 0
+Derived node top = (xs : List ℕ) × Derives node top xs
 
--- how a derivation begins: the node is nullable if no event is taken, else the first kind is in FIRST
-data Opening (node : ℕ → Node) (top : Node) : List ℕ → List ℕ → Type 0 where
-  opening-none : {u : List ℕ} → Nullable node top → Opening node top u u
-  opening-some : {k : ℕ} {w u : List ℕ} → First node top k → Opening node top (k ∷ w) u
-
--- two derivations from one place: they are the same, or the kind behind the shorter should not follow
-data Agree (node : ℕ → Node) (top : Node) : List ℕ → List ℕ → Full → Full → Type 0 where
-  agree-same : {u : List ℕ} {f : Full} → Agree node top u u f f
-  agree-left : {k : ℕ} {u v : List ℕ} {f g : Full} → Snf node top k → Agree node top (k ∷ u) v f g
-  agree-right : {k : ℕ} {u v : List ℕ} {f g : Full} → Snf node top k → Agree node top u (k ∷ v) f g
+-- two derivations with what follows each: they are equal, or the kind behind the shorter should not follow
+data Agree (node : ℕ → Node) (top : Node) : List ℕ → List ℕ → Derived node top → Derived node top → Type 0 where
+  agree-same : {u : List ℕ} {s : Derived node top} → Agree node top u u s s
+  agree-left : {k : ℕ} {u v : List ℕ} {s t : Derived node top} → Snf node top k → Agree node top (k ∷ u) v s t
+  agree-right : {k : ℕ} {u v : List ℕ} {s t : Derived node top} → Snf node top k → Agree node top u (k ∷ v) s t
 
 module _ {node : ℕ → Node} where
-  opening-productive : {top : Node} {w u : List ℕ} → Opening node top w u → Productive node top
-  opening-productive (opening-none a) = nullable-productive a
-  opening-productive (opening-some d) = first-productive d
-
-  opening-as : {a b : Node} {w u : List ℕ} → (Nullable node a → Nullable node b) → ((k : ℕ) → First node a k → First node b k)
-      → Opening node a w u → Opening node b w u
-  opening-as f g (opening-none a) = opening-none (f a)
-  opening-as f g (opening-some d) = opening-some (g _ d)
-
-  opening-then : {l r : ℕ} {w m u : List ℕ} → Opening node (node l) w m → Opening node (node r) m u → Opening node (Then l r) w u
-  opening-then (opening-none a) (opening-none b) = opening-none (n-then a b)
-  opening-then (opening-none a) (opening-some d) = opening-some (f-skip a d)
-  opening-then (opening-some d) o = opening-some (f-hold d (opening-productive o))
-
-  opening : {n : ℕ} {top : Node} {w u : List ℕ} {f : Full} → Spans node n top w u f → Opening node top w u
-  opening spans-empty = opening-none n-empty
-  opening spans-token = opening-some f-token
-  opening (spans-left s) = opening-as n-left (λ k. f-left) (opening s)
-  opening (spans-right s) = opening-as n-right (λ k. f-right) (opening s)
-  opening (spans-then s t) = opening-then (opening s) (opening t)
-  opening (spans-tagged s) = opening-as n-tagged (λ k. f-tagged) (opening s)
-  opening (spans-ref s) = opening-as n-ref (λ k. f-ref) (opening s)
-
-  agree-swap : {top : Node} {u v : List ℕ} {f g : Full} → Agree node top u v f g → Agree node top v u g f
+  agree-swap : {top : Node} {u v : List ℕ} {s t : Derived node top} → Agree node top u v s t → Agree node top v u t s
   agree-swap agree-same = agree-same
-  agree-swap (agree-left s) = agree-right s
-  agree-swap (agree-right s) = agree-left s
+  agree-swap (agree-left h) = agree-right h
+  agree-swap (agree-right h) = agree-left h
 
-  agree-as : {a b : Node} {u v : List ℕ} {f g : Full} (wrap : Full → Full) → ((k : ℕ) → Snf node a k → Snf node b k)
-      → Agree node a u v f g → Agree node b u v (wrap f) (wrap g)
-  agree-as wrap h agree-same = agree-same
-  agree-as wrap h (agree-left s) = agree-left (h _ s)
-  agree-as wrap h (agree-right s) = agree-right (h _ s)
+  agree-as : {a b : Node} {u v : List ℕ} {s t : Derived node a} (wrap : Derived node a → Derived node b)
+      → ((k : ℕ) → Snf node a k → Snf node b k) → Agree node a u v s t → Agree node b u v (wrap s) (wrap t)
+  agree-as wrap f agree-same = agree-same
+  agree-as wrap f (agree-left h) = agree-left (f _ h)
+  agree-as wrap f (agree-right h) = agree-right (f _ h)
 
   -- the two sides of an either
-  agree-sides : {l r : ℕ} {w u v : List ℕ} {f g : Full} → Clear node (Either l r) → Opening node (node l) w u → Opening node (node r) w v
-      → Agree node (Either l r) u v f g
-  agree-sides cl (opening-none a) (opening-none b) = absurd (clear-here cl (c-nullable a b))
-  agree-sides cl (opening-none a) (opening-some e) = agree-left (s-first-right a e)
-  agree-sides cl (opening-some d) (opening-none b) = agree-right (s-first-left d b)
-  agree-sides cl (opening-some d) (opening-some e) = absurd (clear-here cl (c-first d e))
+  agree-sides : {l r : ℕ} {u v : List ℕ} {s t : Derived node (Either l r)} → Clear node (Either l r) → (xs ys : List ℕ)
+      → xs ++ u ≡ ys ++ v → Opens node (node l) xs → Opens node (node r) ys → Agree node (Either l r) u v s t
+  agree-sides cl [] [] same a b = absurd (clear-here cl (c-nullable a b))
+  agree-sides cl [] (k ∷ ys) same a e = rw same (agree-left (s-first-right a e))
+  agree-sides cl (k ∷ xs) [] same d b = rw (sym same) (agree-right (s-first-left d b))
+  agree-sides cl (k ∷ xs) (j ∷ ys) same d e = absurd (clear-here cl (c-first d (rw (sym (head-eq-of-cons-eq same)) at e)))
 
   -- behind the kind that should not follow the left of a then the right takes no event
-  agree-short : {l r k : ℕ} {w u v : List ℕ} {f g : Full} → Clear node (Then l r) → Snf node (node l) k → Opening node (node r) (k ∷ w) u
-      → Agree node (Then l r) u v f g
-  agree-short cl s (opening-none b) = agree-left (s-then-left s b)
-  agree-short cl s (opening-some e) = absurd (clear-here cl (c-follow s e))
+  agree-short : {l r k : ℕ} {w u v : List ℕ} {s t : Derived node (Then l r)} → Clear node (Then l r) → Snf node (node l) k → (ys : List ℕ)
+      → (k ∷ w) ≡ ys ++ u → Opens node (node r) ys → Agree node (Then l r) u v s t
+  agree-short cl h [] same b = rw (sym same) (agree-left (s-then-left h b))
+  agree-short cl h (j ∷ ys) same e = absurd (clear-here cl (c-follow h (rw (sym (head-eq-of-cons-eq same)) at e)))
 
-  agree-then : {n l r : ℕ} {m₁ m₂ u v : List ℕ} {f₁ f₂ g₁ g₂ : Full} → Clear node (Then l r) → Productive node (node l)
-      → Agree node (node l) m₁ m₂ f₁ f₂ → Spans node r (node r) m₁ u g₁ → Spans node r (node r) m₂ v g₂
-      → ((v : List ℕ) (g : Full) → Spans node r (node r) m₁ v g → Agree node (node r) u v g₁ g)
-      → Agree node (Then l r) u v (full-then n f₁ g₁) (full-then n f₂ g₂)
-  agree-then {n} {f₁ = f} cl p agree-same s t rest = agree-as (full-then n f) (λ k. s-then-right p) (rest _ _ t)
-  agree-then cl p (agree-left h) s t rest = agree-short cl h (opening s)
-  agree-then cl p (agree-right h) s t rest = agree-swap (agree-short cl h (opening t))
+  abbrev joined : {l r : ℕ} → Derived node (node l) → Derived node (node r) → Derived node (Then l r)
+  joined s t = (s .0 ++ t .0, d-then (s .1) (t .1))
 
-  token-spans : {n j : ℕ} {w u : List ℕ} {f : Full} → Spans node n (Token j) w u f → (w ≡ j ∷ u) × (full-token n j ≡ f)
-  token-spans spans-token = (refl, refl)
+  agree-then : {l r : ℕ} {m₁ m₂ u v : List ℕ} {s₁ s₂ : Derived node (node l)} (t₁ t₂ : Derived node (node r)) → Clear node (Then l r)
+      → Agree node (node l) m₁ m₂ s₁ s₂ → m₁ ≡ t₁ .0 ++ u → m₂ ≡ t₂ .0 ++ v
+      → (t₁ .0 ++ u ≡ t₂ .0 ++ v → Agree node (node r) u v t₁ t₂) → Agree node (Then l r) u v (joined s₁ t₁) (joined s₂ t₂)
+  agree-then {s₁ = s} t₁ t₂ cl agree-same p q rest = agree-as (joined s) (λ k. s-then-right (derives-productive (s .1))) (rest (sym p ∙ q))
+  agree-then t₁ t₂ cl (agree-left h) p q rest = agree-short cl h (t₁ .0) p (derives-opens (t₁ .1))
+  agree-then t₁ t₂ cl (agree-right h) p q rest = agree-swap (agree-short cl h (t₂ .0) q (derives-opens (t₂ .1)))
 
-  agree-equal : {top : Node} {u v : List ℕ} {f g : Full} → u ≡ v → f ≡ g → Agree node top u v f g
-  agree-equal p q = rw (p, q) agree-same
+  agree : {top : Node} {xs ys : List ℕ} (u v : List ℕ) → Clear node top → (d : Derives node top xs) (e : Derives node top ys)
+      → xs ++ u ≡ ys ++ v → Agree node top u v (xs, d) (ys, e)
+  agree u v cl d-empty d-empty same = rw same agree-same
+  agree u v cl d-token d-token same = rw (tail-eq-of-cons-eq same) agree-same
+  agree u v cl (d-left d) (d-left e) same =
+      agree-as (λ s. (s .0, d-left (s .1))) (λ k. s-left) (agree u v (clear-child cl either-left) d e same)
+  agree u v cl (d-left {xs = xs} d) (d-right {xs = ys} e) same = agree-sides cl xs ys same (derives-opens d) (derives-opens e)
+  agree u v cl (d-right {xs = xs} d) (d-left {xs = ys} e) same =
+      agree-swap (agree-sides cl ys xs (sym same) (derives-opens e) (derives-opens d))
+  agree u v cl (d-right d) (d-right e) same =
+      agree-as (λ s. (s .0, d-right (s .1))) (λ k. s-right) (agree u v (clear-child cl either-right) d e same)
+  agree u v cl (d-then {xs = xs₁} {ys = ys₁} d d′) (d-then {xs = xs₂} {ys = ys₂} e e′) same =
+      agree-then (ys₁, d′) (ys₂, e′) cl
+      (agree (ys₁ ++ u) (ys₂ ++ v) (clear-child cl then-left) d e (sym (append-assoc xs₁ ys₁ u) ∙ same ∙ append-assoc xs₂ ys₂ v))
+      refl refl (λ rest. agree u v (clear-child cl then-right) d′ e′ rest)
+  agree u v cl (d-tagged d) (d-tagged e) same =
+      agree-as (λ s. (s .0, d-tagged (s .1))) (λ k. s-tagged) (agree u v (clear-child cl tagged-left) d e same)
+  agree u v cl (d-ref d) (d-ref e) same =
+      agree-as (λ s. (s .0, d-ref (s .1))) (λ k. s-ref) (agree u v (clear-child cl ref-left) d e same)
 
-  agree : {n : ℕ} {top : Node} {w u v : List ℕ} {f g : Full} → Clear node top → Spans node n top w u f → Spans node n top w v g
-      → Agree node top u v f g
-  agree cl spans-empty spans-empty = agree-same
-  agree cl spans-token t = let q = token-spans t in agree-equal (tail-eq-of-cons-eq (q .0)) (q .1)
-  agree {n} cl (spans-left s) (spans-left t) = agree-as (full-left n) (λ k. s-left) (agree (clear-child cl either-left) s t)
-  agree cl (spans-left s) (spans-right t) = agree-sides cl (opening s) (opening t)
-  agree cl (spans-right s) (spans-left t) = agree-swap (agree-sides cl (opening t) (opening s))
-  agree {n} cl (spans-right s) (spans-right t) = agree-as (full-right n) (λ k. s-right) (agree (clear-child cl either-right) s t)
-  agree cl (spans-then s s′) (spans-then t t′) =
-      agree-then cl (opening-productive (opening s)) (agree (clear-child cl then-left) s t) s′ t′ (λ v g x. agree (clear-child cl then-right) s′ x)
-  agree {n} cl (spans-tagged s) (spans-tagged t) = agree-as (full-tagged n) (λ k. s-tagged) (agree (clear-child cl tagged-left) s t)
-  agree {n} cl (spans-ref s) (spans-ref t) = agree-as (full-ref n) (λ k. s-ref) (agree (clear-child cl ref-left) s t)
-
-  agree-ended : {top : Node} {f g : Full} → Agree node top [] [] f g → f ≡ g
+  agree-ended : {top : Node} {s t : Derived node top} → Agree node top [] [] s t → s ≡ t
   agree-ended agree-same = refl
 
-  derives-spans : {top : Node} {xs : List ℕ} (n : ℕ) (d : Derives node top xs) (u : List ℕ) → Spans node n top (xs ++ u) u (full n d)
-  unfolding full
-  derives-spans n d-empty u = spans-empty
-  derives-spans n d-token u = spans-token
-  derives-spans n (d-left {l} d) u = spans-left (derives-spans l d u)
-  derives-spans n (d-right {r = r} d) u = spans-right (derives-spans r d u)
-  derives-spans n (d-then {l} {r} {xs} {ys} d e) u =
-      rw (append-assoc xs ys u) (spans-then (derives-spans l d (ys ++ u)) (derives-spans r e u))
-  derives-spans n (d-tagged {l} d) u = spans-tagged (derives-spans l d u)
-  derives-spans n (d-ref {l} d) u = spans-ref (derives-spans l d u)
+  -- runs being a set, derivations of one run that are equal with their runs are equal
+  equal-beside : {top : Node} {xs : List ℕ} (d e : Derives node top xs) → Path (Derived node top) (xs, d) (xs, e) → d ≡ e
+  equal-beside {top} {xs} d e p =
+      subst (λ (q : xs ≡ xs). PathP (λ i. Derives node top (q i)) d e) (List·isSet ℕ-set xs xs (λ i. p i .0) refl) (λ i. p i .1)
 
-  -- two derivations of one run are the same, with nothing collapsed
-  pub full-unique : {top : Node} {xs : List ℕ} (n : ℕ) → Clear node top → (d e : Derives node top xs) → full n d ≡ full n e
-  full-unique n cl d e = agree-ended (agree cl (derives-spans n d []) (derives-spans n e []))
+  agree-behind : {top : Node} {k : ℕ} {u : List ℕ} {s t : Derived node top} → Agree node top (k ∷ u) [] s t → Snf node top k
+  agree-behind (agree-left h) = h
+
+  -- a kind that takes a run on to a longer one should not follow
+  clear-snf : {top : Node} {k : ℕ} → Clear node top → Extends node top k → Snf node top k
+  clear-snf {k = k} cl h =
+      agree-behind (agree (k ∷ h .rest) [] cl (h .derives-shorter) (h .derives-longer) (sym (append-nil (h .shorter ++ (k ∷ h .rest)))))
+
+  -- two derivations of one run are equal
+  clear-unique : {top : Node} {xs : List ℕ} → Clear node top → (d e : Derives node top xs) → d ≡ e
+  clear-unique cl d e = equal-beside d e (agree-ended (agree [] [] cl d e refl))
 
 -- the only derivation there is, from a reachable node of a passed book
-pub whole-unique : {b : Book} → Passes b → (n : ℕ) → Reach (b .node) (b .start) n → {xs : List ℕ} (d e : Derives (b .node) (b .node n) xs)
-    → full n d ≡ full n e
-whole-unique p n r = full-unique n (passes-clear p n r)
+pub derivation-unique : {b : Book} → Passes b → (n : ℕ) → Reach (b .node) (b .start) n → {xs : List ℕ}
+    (d e : Derives (b .node) (b .node n) xs) → d ≡ e
+derivation-unique p n r = clear-unique (passes-clear p n r)
+
+-- at a reachable node of a passed book SNF is exactly what takes a run on to a longer one
+pub snf-iff : {b : Book} → Passes b → (n : ℕ) → Reach (b .node) (b .start) n → {k : ℕ}
+    → Snf (b .node) (b .node n) k ↔ Extends (b .node) (b .node n) k
+snf-iff p n r = (snf-extends, clear-snf (passes-clear p n r))

@@ -9,11 +9,11 @@ module _ (b : Book) where
   Fruitful = Productive (b .node) (b .node (b .start))
 
   -- no node reachable from the start has a conflict
-  abbrev pub Free : Type 0
-  Free = (n : ℕ) → Reach (b .node) (b .start) n → Conflict (b .node) (b .node n) → ⊥
+  abbrev pub NoConflict : Type 0
+  NoConflict = (n : ℕ) → Reach (b .node) (b .start) n → Conflict (b .node) (b .node n) → ⊥
 
 -- a book passes: well formed, its start productive, and no reachable node has a conflict
 pub record Passes (b : Book) : Type 0 where
   pub well-formed : WellFormed b
   pub productive : Fruitful b
-  pub no-conflict : Free b
+  pub no-conflict : NoConflict b

@@ -1,5 +1,5 @@
--- The rules of document 000, figure 5, as document 01 words them. Each fact is the least one that its rules give; tagged and ref
--- take all facts of their left. `node` looks a book's nodes up by number.
+-- The rules of document 000, figure 5, as document 01 words them. Each fact is the least one that its rules give;
+-- tagged and ref take all facts of their left. `node` looks a book's nodes up by number.
 use Prim.Native.Nat.{ℕ}
 use Rattle.book.specs.declared.Node.{Node}
 use Rattle.book.specs.declared.Node.the-variants.{Empty, Token, Either, Then, Tagged, Ref}
@@ -23,7 +23,8 @@ pub data Nullable (node : ℕ → Node) : Node → Type 0 where
   n-tagged : {l t : ℕ} → Nullable node (node l) → Nullable node (Tagged l t)
   n-ref : {l : ℕ} → Nullable node (node l) → Nullable node (Ref l)
 
--- FIRST: a token has its kind; either joins both sides; then has FIRST(left) if right is productive, FIRST(right) if left is nullable
+-- FIRST: a token has its kind; either joins both sides; then has FIRST(left) if right is productive, and FIRST(right)
+-- if left is nullable
 pub data First (node : ℕ → Node) : Node → ℕ → Type 0 where
   f-token : {k : ℕ} → First node (Token k) k
   f-left : {l r k : ℕ} → First node (node l) k → First node (Either l r) k
@@ -33,8 +34,8 @@ pub data First (node : ℕ → Node) : Node → ℕ → Type 0 where
   f-tagged : {l t k : ℕ} → First node (node l) k → First node (Tagged l t) k
   f-ref : {l k : ℕ} → First node (node l) k → First node (Ref l) k
 
--- should-not-follow: either joins both sides, with FIRST(left) if right is nullable and FIRST(right) if left is nullable;
--- then has SNF(left) if right is nullable, and SNF(right) if left is productive
+-- should-not-follow: either joins both sides, with FIRST(left) if right is nullable and FIRST(right) if left is
+-- nullable; then has SNF(left) if right is nullable, and SNF(right) if left is productive
 pub data Snf (node : ℕ → Node) : Node → ℕ → Type 0 where
   s-left : {l r k : ℕ} → Snf node (node l) k → Snf node (Either l r) k
   s-right : {l r k : ℕ} → Snf node (node r) k → Snf node (Either l r) k
@@ -45,7 +46,8 @@ pub data Snf (node : ℕ → Node) : Node → ℕ → Type 0 where
   s-tagged : {l t k : ℕ} → Snf node (node l) k → Snf node (Tagged l t) k
   s-ref : {l k : ℕ} → Snf node (node l) k → Snf node (Ref l) k
 
--- a conflict: at an either both sides nullable, or a kind in both FIRST sets; at a then a kind in SNF(left) and in FIRST(right)
+-- a conflict: at an either both sides nullable, or a kind in both FIRST sets; at a then a kind in SNF(left) and in
+-- FIRST(right)
 pub data Conflict (node : ℕ → Node) : Node → Type 0 where
   c-nullable : {l r : ℕ} → Nullable node (node l) → Nullable node (node r) → Conflict node (Either l r)
   c-first : {l r k : ℕ} → First node (node l) k → First node (node r) k → Conflict node (Either l r)

@@ -11,7 +11,7 @@ use lib.Dec.{lit<}
 use lib.Pow.{pow-mono, pow-lt, pow-pos, shr-shr, ones-split, ones-lt, high}
 use lib.Bits.{bitAnd, bitOr, bitXor, differ, and-shr, or-shr, xor-shr, and-step, or-step, xor-step, xor-lt, and-le-r}
 use lib.Count.{trailingZeros, under, trailing-of-zero}
-use Rattle.kinds.specs.Kinds.{Has, has?, everyKind, onlyKind, joined, inBoth, withoutKind, lowestKind, Lowest}
+use Rattle.kinds.specs.Kinds.{Has, has?, everyKind, onlyKind, joined, inBoth, withoutKind, lowestKind, LowestIn}
 
 -- the test decides
 pub has?-is : (mask k : ℕ) → (has? mask k ≡ true) ↔ Has mask k
@@ -27,6 +27,11 @@ has-dec mask k = elim (ℕ-discrete (mask / 2 ^ k % 2) 1) [ yes e ↦ yes (recor
 pub beyond : (width : ℕ) {mask k : ℕ} → mask < 2 ^ width → width ≤ k → Has mask k → ⊥
 beyond width {mask} {k} small far h =
     omega (arith, h .bit, div-eq-of-lt {n = mask} {m = 2 ^ k} (lt-of-lt-of-le small (pow-mono far)))
+
+-- such a set has kinds below width only
+pub has-below : (width : ℕ) {mask k : ℕ} → mask < 2 ^ width → Has mask k → k < width
+has-below width {mask} {k} small has =
+    elim (decLt k width) [ yes below ↦ below | no past ↦ absurd (beyond width small (omega arith) has) ]
 
 -- the empty set has no kind
 pub none : {k : ℕ} → Has 0 k → ⊥
@@ -59,12 +64,8 @@ has-single j k = (single-only j k, (λ e. record { bit = rw (e, div-self (pow-po
 -- the set of all kinds has exactly those below 64
 pub all : {k : ℕ} → Has everyKind k ↔ (k < 64)
 unfolding everyKind
-all {k} = (inside (decLt k 64), (λ h. record { bit = bit-is (63 - k) (omega arith) }))
+all {k} = (has-below 64 (lit< tt), (λ h. record { bit = bit-is (63 - k) (omega arith) }))
   where
-    inside : Dec (k < 64) → Has 18446744073709551615 k → k < 64
-    inside (yes h) has = h
-    inside (no f) has = absurd (beyond 64 (lit< tt) (omega arith) has)
-
     bit-is : (i : ℕ) → suc i + k ≡ 64 → 18446744073709551615 / 2 ^ k % 2 ≡ 1
     bit-is i e =
         let whole : 18446744073709551615 ≡ (2 ^ suc i - 1) * 2 ^ k + (2 ^ k - 1) = ap (λ (n : ℕ). 2 ^ n - 1) (sym e) ∙ ones-split (suc i) k in
@@ -164,12 +165,8 @@ more-kinds {a} {b} ha hb more differ =
 -- a set without one of its kinds is the smaller number
 pub without-less : {mask k : ℕ} → mask < 2 ^ 64 → Has mask k → withoutKind mask k < mask
 without-less {mask} {k} small has =
-    more-kinds (xor-lt 64 mask (onlyKind k) small (inside (decLt k 64))) small (λ j h. has-without has j .0 h .0)
+    more-kinds (xor-lt 64 mask (onlyKind k) small (pow-lt (has-below 64 small has))) small (λ j h. has-without has j .0 h .0)
     (λ e. has-without has k .0 (subst (λ (m : ℕ). Has m k) (sym e) has) .1 refl)
-  where
-    inside : Dec (k < 64) → 2 ^ k < 2 ^ 64
-    inside (yes l) = pow-lt l
-    inside (no f) = absurd (beyond 64 small (omega arith) has)
 
 -- ---- the lowest kind
 
@@ -195,7 +192,7 @@ zeros-end (suc width) mask h = go (mask % 2) refl (zeros-end width (mask / 2)) h
     go (suc r) e rest l = record { bit = omega (arith, mod-lt mask {m = 2} (lit< tt)) }
 
 -- the lowest kind is in a set that is not empty, no lower one is, and that of the empty set is 64
-pub lowest-is : {mask : ℕ} → mask < 2 ^ 64 → Lowest mask (lowestKind mask)
+pub lowest-is : {mask : ℕ} → mask < 2 ^ 64 → LowestIn mask (lowestKind mask)
 unfolding lowestKind
 lowest-is {mask} small = record {
   least = λ j l. zeros-below 64 mask j l;
@@ -210,16 +207,3 @@ lowest-is {mask} small = record {
         nowhere : (k : ℕ) → Dec (k < 64) → Has mask k → ⊥
         nowhere k (yes l) = zeros-below 64 mask k (omega arith)
         nowhere k (no g) = beyond 64 small (omega arith)
-
--- a set has one lowest kind
-pub lowest-unique : {mask j k : ℕ} → Lowest mask j → Lowest mask k → j ≡ k
-lowest-unique {mask} {j} {k} p q = go (ℕ-discrete mask 0)
-  where
-    go : Dec (mask ≡ 0) → j ≡ k
-    go (yes e) = p .empty e ∙ sym (q .empty e)
-    go (no f) = go₂ (decLt j k) (decLt k j)
-      where
-        go₂ : Dec (j < k) → Dec (k < j) → j ≡ k
-        go₂ (yes l) d = absurd (q .least j l (p .found f))
-        go₂ (no g) (yes l) = absurd (p .least k l (q .found f))
-        go₂ (no g) (no h) = omega arith

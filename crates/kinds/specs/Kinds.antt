@@ -40,7 +40,7 @@ unfoldable pub lowestKind : ℕ → ℕ
 lowestKind mask = trailingZeros 64 mask
 
 -- a number is the lowest kind of a set, or 64 and the set is empty
-pub record Lowest (mask k : ℕ) : Type 0 where
+pub record LowestIn (mask k : ℕ) : Type 0 where
   pub least : (j : ℕ) → j < k → Has mask j → ⊥
   pub found : mask ≢ 0 → Has mask k
   pub empty : mask ≡ 0 → k ≡ 64

@@ -1,7 +1,7 @@
 // Sets of kinds as 64-bit masks.
 ghost use Prim.Native.Nat.{_<_};
 ghost use mathlib.Core.Path.{_≡_};
-ghost use Rattle.kinds.specs.Kinds.{has?, everyKind, onlyKind, joined, inBoth, withoutKind, lowestKind};
+ghost use Rattle.kinds.specs.Kinds.{has?, everyKind, onlyKind, withoutKind, lowestKind};
 
 // The set of all kinds.
 pub fn every() -> u64
@@ -24,20 +24,6 @@ pub fn has(set: u64, kind: usize) -> bool
     ensures { λ r. ⌜ r ≡ has? set kind ⌝ }
 {
     (set >> kind) % 2 == 1
-}
-
-// The kinds of either set.
-pub fn join(a: u64, b: u64) -> u64
-    ensures { λ r. ⌜ r ≡ joined a b ⌝ }
-{
-    a | b
-}
-
-// The kinds of both sets.
-pub fn shared(a: u64, b: u64) -> u64
-    ensures { λ r. ⌜ r ≡ inBoth a b ⌝ }
-{
-    a & b
 }
 
 // A set without one of its kinds.

@@ -10,10 +10,11 @@ use borrow.Author.Tests.{ltb-false}
 use Rattle.words.specs.Words.{u16At}
 use Rattle.book.specs.Form.{DONE}
 use Rattle.compiler.specs.declared.Compiled.{Compiled}
-use Rattle.compiler.specs.Compiles.{Compiles, malformed, barren, conflict, no-room, done}
+use Rattle.compiler.specs.Compiles.{Compiles}
+use Rattle.compiler.proofs.Promise.{passed, passed-size}
 use Rattle.reader.specs.Reads.{readOf}
 use Rattle.listed.specs.declared.Shape.the-variants.{TooLong, TooShort, Whole}
-use Rattle.listed.specs.Lines.{Put}
+use Rattle.lines.specs.Lines.{Put}
 use Rattle.listed.specs.Listing.{
   longestBook,
   eventRoom,
@@ -29,7 +30,7 @@ use Rattle.listed.specs.Listing.{
   run-read,
   Listed,
 }
-use Rattle.listed.proofs.Laws.{put-length, put-taken, put-rest}
+use Rattle.lines.proofs.Laws.{put-length, put-taken, put-rest}
 
 -- an input that is whole has a length, its book and a run within the room
 pub record Full (input : List ℕ) : Type 0 where
@@ -117,8 +118,4 @@ pub compiled-within : {bytes : List ℕ} {room : ℕ} {answer : Compiled} {plan 
     → Compiles bytes room answer plan
     → answer .number ≡ DONE
     → answer .size ≤ room
-compiled-within (malformed bad) e = absurd (bad e)
-compiled-within (barren _ _) e = absurd (omega arith)
-compiled-within (conflict _ _ _ _ _) e = absurd (omega arith)
-compiled-within (no-room _ _ _ _) e = absurd (omega arith)
-compiled-within (done _ _ _ fits _) e = fits
+compiled-within made is = rw (passed-size made is) (passed made is .fits)

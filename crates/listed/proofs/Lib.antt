@@ -1,5 +1,5 @@
-pub mod Laws
 pub mod Answers
 pub mod Inputs
 pub mod Unique
-pub mod Rinse
+pub mod Buffers
+pub mod Worked

@@ -12,12 +12,12 @@ use lib.Seq.{take-all}
 use borrow.Author.Tests.{lt-ltb, le-ltb, ltb-false}
 use Rattle.book.specs.Form.{DONE, bookOf}
 use Rattle.book.proofs.Decoded.{formed, well-formed}
-use Rattle.book.proofs.Laws.{form-listed}
 use Rattle.plan.proofs.Laws.{size-small}
 use Rattle.compiler.specs.declared.Compiled.{Compiled}
-use Rattle.compiler.specs.Compiles.{Compiles, PLAN-ROOM, malformed, barren, conflict, no-room, done}
+use Rattle.compiler.specs.Compiles.{Compiles, PLAN-ROOM}
 use Rattle.compiler.proofs.Unique.{compiles-unique}
 use Rattle.compiler.proofs.Some.{compiles-some}
+use Rattle.compiler.proofs.Promise.{room-short}
 use Rattle.reader.specs.Reads.{readOf}
 use Rattle.listed.specs.declared.Shape.{Shape}
 use Rattle.listed.specs.declared.Shape.the-variants.{TooLong, TooShort, Whole}
@@ -59,7 +59,8 @@ lists-unique (run-read p _ _) (too-long q) = cc
 lists-unique (run-read p _ _) (too-short q) = cc
 lists-unique (run-read _ a good) (book-refused _ b bad) = absurd (bad (ap (λ (c : Compiled). c .number) (compiles-unique b a .0) ∙ good))
 lists-unique {input} (run-read _ a _) (run-read _ b _) =
-    ap₂ (λ (c : Compiled) (plan : List ℕ). readingLines (length (runIn input)) (readOf (take (c .size) plan) (runIn input) slotRoom treeRoom))
+    let run = runIn input in
+    ap₂ (λ (c : Compiled) (plan : List ℕ). readingLines (length run) (readOf (take (c .size) plan) run slotRoom treeRoom))
     (compiles-unique a b .0)
     (compiles-unique a b .1)
 
@@ -84,13 +85,10 @@ lists-some input = by-shape (shapeOf input) refl
 
 -- PLAN ROOM never shows: the plan's buffer holds the largest plan
 pub plan-fits : {bytes : List ℕ} {answer : Compiled} {plan : List ℕ} → Compiles bytes planRoom answer plan → answer .number ≢ PLAN-ROOM
-plan-fits {bytes} (malformed bad) = omega (arith, form-listed bytes)
-plan-fits (barren _ _) = omega arith
-plan-fits (conflict _ _ _ _ _) = omega arith
-plan-fits {bytes} (no-room good _ _ short) =
+plan-fits {bytes} made short =
+    let (good, small) = room-short made short in
     let book = well-formed (formed bytes good) in
-    absurd (omega (arith, short, size-small (bookOf bytes .count) (bookOf bytes .kinds) (book .few-nodes) (book .few-kinds)))
-plan-fits (done _ _ _ _ _) = omega arith
+    omega (arith, small, size-small (bookOf bytes .count) (bookOf bytes .kinds) (book .few-nodes) (book .few-kinds))
 
 -- an input of more bytes than decide is too long
 long-input : (input : List ℕ) → inputRoom ≤ length input → shapeOf input ≡ TooLong
@@ -108,14 +106,15 @@ long-input input long =
     by-size true e = rw e
     by-size false e =
         let small : bookSize input ≤ longestBook = ltb-false _ _ e in
-        rw (e, le-ltb (length input) (2 + bookSize input) (omega arith), lt-ltb (2 + bookSize input + eventRoom) (length input) (omega arith))
+        let long-enough = le-ltb (length input) (2 + bookSize input) (omega arith) in
+        rw (e, long-enough, lt-ltb (2 + bookSize input + eventRoom) (length input) (omega arith))
 
--- the first bytes that decide are enough: the rest of an input changes nothing
-pub lists-front : (input : List ℕ) {out : List ℕ} → Lists (take inputRoom input) out → Lists input out
-lists-front input {out} lists = by-length (decLe inputRoom (length input))
+-- the first bytes that decide are enough, or more of them: the rest of an input changes nothing
+pub lists-front : (room : ℕ) (input : List ℕ) {out : List ℕ} → inputRoom ≤ room → Lists (take room input) out → Lists input out
+lists-front room input {out} enough lists = by-length (decLe room (length input))
   where
-    by-length : Dec (inputRoom ≤ length input) → Lists input out
+    by-length : Dec (room ≤ length input) → Lists input out
     by-length (yes long) =
-        let cut : shapeOf (take inputRoom input) ≡ TooLong = long-input _ (rw length-take (omega arith)) in
-        rw (lists-unique lists (too-long cut)) (too-long (long-input input long))
-    by-length (no short) = rw (take-all inputRoom input (omega arith)) at lists
+        let cut : shapeOf (take room input) ≡ TooLong = long-input _ (rw length-take (omega arith)) in
+        rw (lists-unique lists (too-long cut)) (too-long (long-input input (omega arith)))
+    by-length (no short) = rw (take-all room input (omega arith)) at lists

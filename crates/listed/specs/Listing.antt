@@ -1,10 +1,10 @@
--- The listing program: what it reads, and what it writes for it. Its input is the book's length, the book, then the events.
+-- What the listing program writes for its input: the book's length, the book, then the events.
 use Prim.Native.Nat.{ℕ, _+_, _≤_}
 use mathlib.Core.Path.{_≡_}
 use mathlib.Core.Logic.{_≢_}
-use mathlib.Core.Bool.{cond}
+use mathlib.Core.Bool.{Bool, true, false, cond, _&&_}
 use mathlib.Core.List.{List}
-use lib.Dec.{ltb, eqb}
+use lib.Dec.{ltb, leb, eqb}
 use lib.ListN.{length, take, drop}
 use Rattle.words.specs.Words.{u16At}
 use Rattle.book.specs.Form.{DONE}
@@ -15,7 +15,7 @@ use Rattle.reader.specs.Numbers.{NO-ROOM}
 use Rattle.reader.specs.Reads.{Outcome, readOf}
 use Rattle.listed.specs.declared.Shape.{Shape}
 use Rattle.listed.specs.declared.Shape.the-variants.{TooLong, TooShort, Whole}
-use Rattle.listed.specs.Lines.{refusedRoom, acceptedRoom, inputTooLong, inputTooShort, refusedLine, acceptedLines}
+use Rattle.lines.specs.Lines.{refusedRoom, acceptedRoom, inputTooLong, inputTooShort, refusedLine, acceptedLines}
 
 -- the longest book, and the room for events
 abbrev pub longestBook : ℕ
@@ -37,6 +37,10 @@ slotRoom = 512
 
 abbrev pub treeRoom : ℕ
 treeRoom = 8192
+
+-- the output's, which holds the lines of all those records
+abbrev pub outRoom : ℕ
+outRoom = acceptedRoom treeRoom
 
 -- the book's length, the book and the run that an input has
 unfoldable pub bookSize : List ℕ → ℕ
@@ -87,7 +91,8 @@ pub data Lists (input : List ℕ) : List ℕ → Type 0 where
       → shapeOf input ≡ Whole
       → Compiles (bookIn input) planRoom answer plan
       → answer .number ≡ DONE
-      → Lists input (readingLines (length (runIn input)) (readOf (take (answer .size) plan) (runIn input) slotRoom treeRoom))
+      → Lists input
+      (readingLines (length (runIn input)) (readOf (take (answer .size) plan) (runIn input) slotRoom treeRoom))
 
 -- an output with room for the lines of a run that was read, and, where it was accepted, a tree with all its records
 pub record Room (out : List ℕ) (answer : Reading) (tree : List ℕ) : Type 0 where
@@ -97,11 +102,11 @@ pub record Room (out : List ℕ) (answer : Reading) (tree : List ℕ) : Type 0 w
 
 -- the buffers lent to read a run, each of its size, and an output that always suffices
 pub record RunLent (out held tree : List ℕ) : Type 0 where
-  pub output : acceptedRoom treeRoom ≤ length out
+  pub output : outRoom ≤ length out
   pub slots : length held ≡ slotRoom
   pub records : length tree ≡ treeRoom
 
--- all the lent buffers
+-- those lent to compile a book and read a run
 pub record Lent (out plan held tree : List ℕ) : Type 0 where
   pub cells : length plan ≡ planRoom
   pub others : RunLent out held tree
@@ -112,3 +117,23 @@ pub record Listed (input before after : List ℕ) (count : ℕ) : Type 0 where
   pub front : count ≡ length (take count after)
   pub lists : Lists input (take count after)
   pub rest : drop count after ≡ drop count before
+
+-- a buffer begins with so many bytes that were read of an input: all of it, or as much as fills the buffer
+pub record ReadInto (input buffer : List ℕ) (size : ℕ) : Type 0 where
+  pub front : take size buffer ≡ take (length buffer) input
+
+-- the lengths of all the lent buffers suffice; so many bytes of the input's were read
+abbrev pub suffices : ℕ → ℕ → ℕ → ℕ → ℕ → ℕ → Bool
+suffices buffer size out plan held tree =
+    leb inputRoom buffer && leb size buffer && leb outRoom out && eqb plan planRoom && eqb held slotRoom
+    && eqb tree treeRoom
+
+-- what `list` does: where the buffers suffice, what the program writes for every input whose first bytes were read; else
+-- it writes nothing
+pub record Answers (buffer : List ℕ) (size : ℕ) (out plan held tree after : List ℕ) (count : ℕ) : Type 0 where
+  pub listed : suffices (length buffer) size (length out) (length plan) (length held) (length tree) ≡ true
+      → (input : List ℕ)
+      → ReadInto input buffer size
+      → Listed input out after count
+  pub nothing : suffices (length buffer) size (length out) (length plan) (length held) (length tree) ≡ false
+      → (count ≡ 0) × (after ≡ out)

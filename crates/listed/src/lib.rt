@@ -1,21 +1,8 @@
 // What the listing program writes.
 ghost use mathlib.Core.Path.{_≡_};
-ghost use Prim.Native.Nat.{_+_, _*_, _≤_};
+ghost use Prim.Native.Nat.{_≤_};
 ghost use lib.ListN.{length};
-ghost use Rattle.listed.specs.Lines.{
-  Put,
-  digitsOf,
-  spacedRoom,
-  refusedRoom,
-  recordRoom,
-  acceptedRoom,
-  spaced,
-  recordText,
-  recordLine,
-  recordLines,
-  refusedLine,
-  acceptedLines,
-};
+ghost use Rattle.lines.specs.Lines.{Put, refusedRoom};
 ghost use Rattle.listed.specs.Listing.{
   Room,
   RunLent,
@@ -27,113 +14,20 @@ ghost use Rattle.listed.specs.Listing.{
   thirdOf,
   readingLines,
   Listed,
+  suffices,
+  Answers,
 };
 ghost use Rattle.reader.specs.Reads.{outcome, readOf};
 use book::DONE;
 use compiler::Compiled;
 use compiler::compile;
-use reader::EMPTY;
+use lines::put_accepted;
+use lines::put_bytes;
+use lines::put_refused;
 use reader::NO_ROOM;
 use reader::Reading;
 use reader::read;
 use words::u16_at;
-
-// Puts bytes at a place, and answers the place after them.
-fn put_bytes(out: &mut [u8], at: usize, bytes: &[u8]) -> usize
-    requires { ⌜ at + length (now bytes) ≤ length (now out) ⌝ }
-    ensures { λ r. ⌜ Put (now (out .entry)) (now (out .exit)) at r (now (bytes .entry)) ⌝ }
-{
-    let mut i = 0;
-    while i < bytes.len() {
-        out[at + i] = bytes[i];
-        i += 1;
-    }
-    at + i
-}
-
-// Puts a number's decimal digits at a place, and answers the place after them.
-fn put_number(out: &mut [u8], at: usize, value: u64) -> usize
-    requires { ⌜ at + length (digitsOf value) ≤ length (now out) ⌝ }
-    ensures { λ r. ⌜ Put (now (out .entry)) (now (out .exit)) at r (digitsOf value) ⌝ }
-{
-    let digit = b'0' + (value % 10) as u8;
-    if value < 10 {
-        out[at] = digit;
-        return at + 1;
-    }
-    let next = put_number(out, at, value / 10);
-    out[next] = digit;
-    next + 1
-}
-
-// Puts a space and a number at a place, and answers the place after them.
-fn put_spaced(out: &mut [u8], at: usize, value: u64) -> usize
-    requires { ⌜ at + spacedRoom ≤ length (now out) ⌝ }
-    ensures { λ r. ⌜ Put (now (out .entry)) (now (out .exit)) at r (spaced value) × (r ≤ at + spacedRoom) ⌝ }
-{
-    let next = put_bytes(out, at, b" ");
-    put_number(out, next, value)
-}
-
-// Puts a refusal's line, and answers its length.
-fn put_refused(out: &mut [u8], number: u64, place: u64, third: u64) -> usize
-    requires { ⌜ refusedRoom ≤ length (now out) ⌝ }
-    ensures { λ r. ⌜ Put (now (out .entry)) (now (out .exit)) 0 r (refusedLine number place third) ⌝ }
-{
-    let word = put_bytes(out, 0, b"refused");
-    let first = put_spaced(out, word, number);
-    let second = put_spaced(out, first, place);
-    let last = put_spaced(out, second, third);
-    put_bytes(out, last, b"\n")
-}
-
-// Puts a record's node number at a place, an empty record's with `-` before it.
-fn put_node(out: &mut [u8], at: usize, entry: u16) -> usize
-    requires { ⌜ at + 6 ≤ length (now out) ⌝ }
-    ensures { λ r. ⌜ Put (now (out .entry)) (now (out .exit)) at r (recordText entry) × (r ≤ at + 6) ⌝ }
-{
-    let node = entry as usize;
-    if node < EMPTY {
-        return put_number(out, at, node as u64);
-    }
-    let next = put_bytes(out, at, b"-");
-    put_number(out, next, (node - EMPTY) as u64)
-}
-
-// Puts a record's line at a place, and answers the place after it.
-fn put_record(out: &mut [u8], at: usize, entry: u16) -> usize
-    requires { ⌜ at + recordRoom ≤ length (now out) ⌝ }
-    ensures { λ r. ⌜ Put (now (out .entry)) (now (out .exit)) at r (recordLine entry) × (r ≤ at + recordRoom) ⌝ }
-{
-    let next = put_node(out, at, entry);
-    put_bytes(out, next, b"\n")
-}
-
-// Puts one record a line from a place on, and answers the place after them.
-fn put_records(out: &mut [u8], at: usize, tree: &[u16]) -> usize
-    requires { ⌜ at + recordRoom * length (now tree) ≤ length (now out) ⌝ }
-    ensures { λ r. ⌜ Put (now (out .entry)) (now (out .exit)) at r (recordLines (now (tree .entry))) ⌝ }
-{
-    let mut next = at;
-    let mut i = 0;
-    while i < tree.len() {
-        next = put_record(out, next, tree[i]);
-        i += 1;
-    }
-    next
-}
-
-// Puts an accepted run's lines, and answers their length.
-fn put_accepted(out: &mut [u8], events: u64, records: u64, tree: &[u16]) -> usize
-    requires { ⌜ acceptedRoom (length (now tree)) ≤ length (now out) ⌝ }
-    ensures { λ r. ⌜ Put (now (out .entry)) (now (out .exit)) 0 r (acceptedLines events records (now (tree .entry))) ⌝ }
-{
-    let word = put_bytes(out, 0, b"accept");
-    let first = put_spaced(out, word, events);
-    let second = put_spaced(out, first, records);
-    let line = put_bytes(out, second, b"\n");
-    put_records(out, line, tree)
-}
 
 // The longest book, and the room for events.
 const LONGEST_BOOK: usize = 3090;
@@ -194,7 +88,9 @@ fn third_of(answer: Reading) -> u64
 // Puts the lines of a run that was read, and answers their length.
 fn put_reading(out: &mut [u8], events: usize, answer: Reading, tree: &[u16]) -> usize
     requires { ⌜ Room (now out) answer (now tree) ⌝ }
-    ensures { λ r. ⌜ Put (now (out .entry)) (now (out .exit)) 0 r (readingLines events (outcome answer (now (tree .entry)))) ⌝ }
+    ensures { λ r.
+        ⌜ Put (now (out .entry)) (now (out .exit)) 0 r
+        (readingLines events (outcome answer (now (tree .entry)))) ⌝ }
 {
     if answer.number == DONE {
         let records = answer.records as usize;
@@ -241,7 +137,7 @@ fn list_book(
 }
 
 // Puts what the program writes for an input, and answers its length.
-pub fn list(
+fn list_input(
     input: &[u8],
     out: &mut [u8],
     plan: &mut [u8],
@@ -256,4 +152,54 @@ pub fn list(
         Shape::TooShort => put_bytes(out, 0, b"input too short\n"),
         Shape::Whole => list_book(input, out, plan, held, tree),
     }
+}
+
+// The bytes of an input that decide, and the sizes of the other buffers.
+const INPUT_ROOM: usize = 7189;
+
+const OUT_ROOM: usize = 57393;
+
+const PLAN_ROOM: usize = 36376;
+
+const SLOT_ROOM: usize = 512;
+
+const TREE_ROOM: usize = 8192;
+
+// Whether the lengths of the lent buffers suffice, with so many bytes of input in the first.
+fn suffice(buffer: usize, size: usize, out: usize, plan: usize, held: usize, tree: usize) -> bool
+    ensures { λ r. ⌜ r ≡ suffices buffer size out plan held tree ⌝ }
+{
+    (INPUT_ROOM <= buffer)
+        & (size <= buffer)
+        & (OUT_ROOM <= out)
+        & (plan == PLAN_ROOM)
+        & (held == SLOT_ROOM)
+        & (tree == TREE_ROOM)
+}
+
+// Puts what the program writes for an input whose first bytes, so many, stand in the buffer, and answers its length; 0 if
+// the buffers do not suffice.
+pub fn list(
+    buffer: &[u8],
+    size: usize,
+    out: &mut [u8],
+    plan: &mut [u8],
+    held: &mut [u16],
+    tree: &mut [u16],
+) -> usize
+    ensures { λ r.
+        ⌜ Answers (now (buffer .entry)) size
+        (now (out .entry)) (now (plan .entry)) (now (held .entry)) (now (tree .entry)) (now (out .exit)) r ⌝ }
+{
+    if !suffice(
+        buffer.len(),
+        size,
+        out.len(),
+        plan.len(),
+        held.len(),
+        tree.len(),
+    ) {
+        return 0;
+    }
+    list_input(&buffer[..size], out, plan, held, tree)
 }

@@ -8,9 +8,8 @@ use mathlib.Core.List.{List, [], _∷_, _++_}
 use Rattle.book.specs.Book.{Book, WellFormed}
 use Rattle.book.specs.declared.Node.{Node}
 use Rattle.grammar.specs.Rules.{First, Nullable}
-use Rattle.plan.specs.Cells.{Marks, Marked}
-use Rattle.plan.specs.Running.{Step, taken, refused, emptied, noted, takeOff, walk, event}
-use Rattle.meaning.specs.Plans.{freePlan}
+use Rattle.running.specs.Cells.{Marks, Marked, planFor}
+use Rattle.running.specs.Running.{unlimited, UNEXPECTED, Step, taken, refused, emptied, noted, takeOff, walk, event}
 use Rattle.grammar.proofs.Facts.{nullable-first-snf}
 use Rattle.meaning.proofs.Parts.{Held, held-none, held-some}
 use Rattle.meaning.proofs.Walk.{after, recorded, size, part-first, walk-sound, walk-complete}
@@ -28,7 +27,7 @@ pub record Took (node : ℕ → Node) (k : ℕ) (held then records : List ℕ) :
 -- an event of a kind, with these parts held, by its result
 pub data Event (node : ℕ → Node) (k : ℕ) (held : List ℕ) : Step → Type 0 where
   event-taken : {then records : List ℕ} → Took node k held then records → Event node k held (taken then records)
-  event-refused : ((zs ps : List ℕ) → Held node held (k ∷ zs) ps → ⊥) → Event node k held refused
+  event-refused : ((zs ps : List ℕ) → Held node held (k ∷ zs) ps → ⊥) → Event node k held (refused UNEXPECTED)
 
 -- a nullable part without the kind in FIRST is passed
 passed : {node : ℕ → Node} {k n : ℕ} {held : List ℕ} {s : Step} → Nullable node (node n) → (First node (node n) k → ⊥) → Event node k held s
@@ -47,7 +46,7 @@ passed {node} {k} {n} {held} a f (event-refused g) = event-refused go
     go zs ps (held-some p h) = f (part-first p)
 
 -- a part neither nullable nor with the kind in FIRST refuses
-barred : {node : ℕ → Node} {k n : ℕ} {held : List ℕ} → (Nullable node (node n) → ⊥) → (First node (node n) k → ⊥) → Event node k (n ∷ held) refused
+barred : {node : ℕ → Node} {k n : ℕ} {held : List ℕ} → (Nullable node (node n) → ⊥) → (First node (node n) k → ⊥) → Event node k (n ∷ held) (refused UNEXPECTED)
 barred {node} {k} {n} {held} g f = event-refused go
   where
     go : (zs ps : List ℕ) → Held node (n ∷ held) (k ∷ zs) ps → ⊥
@@ -56,11 +55,11 @@ barred {node} {k} {n} {held} g f = event-refused go
 
 module _ (b : Book) (formed : WellFormed b) (marks : Marks) (marked : Marked (b .node) marks) (k : ℕ) where
   walk-whole : {n : ℕ} (d : First (b .node) (b .node n) k) (held : List ℕ) → Clear (b .node) (b .node n)
-      → walk (freePlan b marks) k (b .count) n held ≡ taken (after d held) (recorded n d)
+      → walk (planFor b marks) unlimited k (b .count) n held ≡ taken (after d held) (recorded n d)
   walk-whole {n} d held cl =
       let h = size-below b formed d refl cl in
       let q : b .count ≡ (b .count - size d) + size d = omega arith in
-      ap (λ (f : ℕ). walk (freePlan b marks) k f n held) q ∙ walk-is b marks marked k (b .count - size d) n d held refl cl
+      ap (λ (f : ℕ). walk (planFor b marks) unlimited k f n held) q ∙ walk-is b marks marked k (b .count - size d) n d held refl cl
 
   -- a part with the kind in FIRST takes the event
   entered : {n : ℕ} {held : List ℕ} (d : First (b .node) (b .node n) k) → Clear (b .node) (b .node n) → Apart (b .node) (b .node n) held
@@ -82,19 +81,19 @@ module _ (b : Book) (formed : WellFormed b) (marks : Marks) (marked : Marked (b 
           let e : after (w .first) held ≡ after d held = cc in
           (w .others, rw e at (w .behind))
 
-  pub event-is : (held : List ℕ) → Orderly (b .node) held → Event (b .node) k held (event (freePlan b marks) k held)
+  pub event-is : (held : List ℕ) → Orderly (b .node) held → Event (b .node) k held (event (planFor b marks) unlimited k held)
   unfolding event takeOff
   event-is [] o = event-refused (λ zs ps. held-nothing)
   event-is (n ∷ held) (orderly-part p cl a o) = go (marks .first n k) refl (marks .null n) refl (event-is held o)
     where
       go : (t : Bool) → marks .first n k ≡ t → (u : Bool) → marks .null n ≡ u
-          → Event (b .node) k held (event (freePlan b marks) k held)
-          → Event (b .node) k (n ∷ held) (event (freePlan b marks) k (n ∷ held))
+          → Event (b .node) k held (event (planFor b marks) unlimited k held)
+          → Event (b .node) k (n ∷ held) (event (planFor b marks) unlimited k (n ∷ held))
       go true e u f v =
           let d = marked .first-is n k .0 e in
           let c = cell-first b marks marked k refl d in
           let w = walk-whole d held cl in
-          rw (c .1, w) (entered d cl a o)
+          rw (c, w) (entered d cl a o)
       go false e true f v =
           let c = cell-other b marks marked k n (b .node n) e in
           rw (c, f) (passed (marked .null-is n .0 f) (λ d. false≢true (sym e ∙ marked .first-is n k .1 d)) v)

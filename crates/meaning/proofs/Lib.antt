@@ -6,9 +6,6 @@ pub mod Size
 pub mod Orderly
 pub mod Event
 pub mod Run
-pub mod Unique
 pub mod Verdict
 pub mod Theorem
-pub mod Limits
 pub mod Walks
-pub mod Slots

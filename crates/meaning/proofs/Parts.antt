@@ -6,7 +6,7 @@ use mathlib.Core.List.{List, [], _∷_, _++_, append-nil, append-assoc}
 use Rattle.book.specs.declared.Node.{Node}
 use Rattle.book.specs.declared.Node.the-variants.{Token, Either, Then, Tagged, Ref}
 use Rattle.grammar.specs.Rules.{Nullable, n-empty, n-left, n-right, n-then, n-tagged, n-ref}
-use Rattle.plan.specs.Running.{emptied}
+use Rattle.running.specs.Running.{emptied}
 use Rattle.grammar.specs.Derivations.{Derives, d-empty, d-token, d-left, d-right, d-then, d-tagged, d-ref}
 use Rattle.meaning.specs.Meaning.{partRecords, parts, tree}
 use Rattle.grammar.proofs.Facts.{nullable-derives-empty, derives-opens}

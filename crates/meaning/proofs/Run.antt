@@ -6,13 +6,13 @@ use mathlib.Core.Bool.{Bool, true, false, false≢true}
 use mathlib.Core.List.{List, [], _∷_, _++_}
 use lib.ListN.{length}
 use lib.Dec.{ltb}
-use borrow.Author.Tests.{ltb-true, ltb-false}
+use borrow.Author.Tests.{lt-ltb, le-ltb, ltb-true, ltb-false}
 use Rattle.book.specs.Book.{Book, WellFormed}
 use Rattle.book.specs.declared.Node.{Node}
 use Rattle.grammar.specs.Rules.{Nullable}
-use Rattle.plan.specs.Cells.{Marks, Marked}
-use Rattle.plan.specs.Running.{Step, Answer, accepted, unknown-at, unexpected-at, end-at, emptied, logged, onward, finish, reads}
-use Rattle.meaning.specs.Plans.{freePlan}
+use Rattle.running.specs.Cells.{Marks, Marked, planFor}
+use Rattle.running.specs.Running.{unlimited, UNEXPECTED, UNKNOWN, END, Step, Answer, accepted, stopped, emptied, logged, onward, finish, reads}
+use Rattle.meaning.specs.Meaning.{refusalOf}
 use Rattle.meaning.proofs.Parts.{Held, held-end, held-none, held-some}
 use Rattle.meaning.proofs.Walk.{part-first}
 use Rattle.meaning.proofs.Size.{first-kind}
@@ -33,16 +33,14 @@ pub record Unended (node : ℕ → Node) (held xs : List ℕ) : Type 0 where
 -- a run from a place on, with these parts held, by its answer
 pub data Run (node : ℕ → Node) (kinds : ℕ) (held xs : List ℕ) (at : ℕ) : Answer → Type 0 where
   run-accepted : {rs : List ℕ} → Held node held xs rs → Run node kinds held xs at (accepted rs)
-  run-unexpected : {i k : ℕ} {before behind parts : List ℕ} → Parted node held xs before k behind → k < kinds → i ≡ at + length before
-      → Run node kinds held xs at (unexpected-at i parts)
-  run-unknown : {i k : ℕ} {before behind parts : List ℕ} → Parted node held xs before k behind → kinds ≤ k → i ≡ at + length before
-      → Run node kinds held xs at (unknown-at i parts)
-  run-end : {i : ℕ} {parts : List ℕ} → Unended node held xs → i ≡ at + length xs → Run node kinds held xs at (end-at i parts)
+  run-refused : {number i k : ℕ} {before behind parts : List ℕ} → Parted node held xs before k behind → number ≡ refusalOf kinds k
+      → i ≡ at + length before → Run node kinds held xs at (stopped number i parts)
+  run-end : {i : ℕ} {parts : List ℕ} → Unended node held xs → i ≡ at + length xs → Run node kinds held xs at (stopped END i parts)
 
 -- the end, by its answer
 data Finish (node : ℕ → Node) (at : ℕ) (before held : List ℕ) : Answer → Type 0 where
   finish-accepted : {rs : List ℕ} → Held node held [] rs → Finish node at before held (accepted rs)
-  finish-end : ((ps : List ℕ) → Held node held [] ps → ⊥) → Finish node at before held (end-at at before)
+  finish-end : ((ps : List ℕ) → Held node held [] ps → ⊥) → Finish node at before held (stopped END at before)
 
 module _ {node : ℕ → Node} where
   -- with one nullable part more
@@ -56,7 +54,7 @@ module _ {node : ℕ → Node} where
       go ps (held-none d h) = f _ h
 
   -- a part not nullable
-  finish-barred : {at n : ℕ} {before held : List ℕ} → (Nullable node (node n) → ⊥) → Finish node at before (n ∷ held) (end-at at before)
+  finish-barred : {at n : ℕ} {before held : List ℕ} → (Nullable node (node n) → ⊥) → Finish node at before (n ∷ held) (stopped END at before)
   finish-barred {n = n} {held = held} f = finish-end go
     where
       go : (ps : List ℕ) → Held node (n ∷ held) [] ps → ⊥
@@ -80,8 +78,7 @@ module _ {node : ℕ → Node} where
       → Run node kinds held (k ∷ xs) at (logged rs a)
   unfolding logged
   run-taken took (run-accepted h) = run-accepted (took .sound _ _ h)
-  run-taken took (run-unexpected {i} p h e) = run-unexpected {i = i} (parted-taken took p) h (omega arith)
-  run-taken took (run-unknown {i} p h e) = run-unknown {i = i} (parted-taken took p) h (omega arith)
+  run-taken took (run-refused {i = i} p number-is e) = run-refused {i = i} (parted-taken took p) number-is (omega arith)
   run-taken {xs = xs} took (run-end {i} p e) =
       run-end {i = i}
       (record {
@@ -99,7 +96,7 @@ module _ {node : ℕ → Node} where
       → ((then : List ℕ) → Orderly node then → Run node kinds then xs (suc at) (rest then)) → Run node kinds held (k ∷ xs) at (onward s rest at held)
   unfolding onward
   run-onward rest h o (event-taken t) f = run-taken t (f _ (t .orderly))
-  run-onward {at = at} rest h o (event-refused g) f = run-unexpected {i = at} (parted-here o g) h (omega arith)
+  run-onward {kinds} {k} {at} rest h o (event-refused g) f = run-refused {number = UNEXPECTED} {i = at} (parted-here o g) (rw (lt-ltb k kinds h)) (omega arith)
 
 module _ (b : Book) (formed : WellFormed b) (marks : Marks) (marked : Marked (b .node) marks) where
   -- a kind that begins what parts held derive is one of the book's
@@ -107,28 +104,28 @@ module _ (b : Book) (formed : WellFormed b) (marks : Marks) (marked : Marked (b 
   held-kind (held-none c h) = held-kind h
   held-kind (held-some p h) = first-kind b formed refl (part-first p)
 
-  finish-is : (at : ℕ) (before held : List ℕ) → Finish (b .node) at before held (finish (freePlan b marks) at before held)
+  finish-is : (at : ℕ) (before held : List ℕ) → Finish (b .node) at before held (finish (planFor b marks) at before held)
   unfolding finish
   finish-is at before [] = finish-accepted held-end
   finish-is at before (n ∷ held) = go (marks .null n) refl (finish-is at before held)
     where
-      go : (t : Bool) → marks .null n ≡ t → Finish (b .node) at before held (finish (freePlan b marks) at before held)
-          → Finish (b .node) at before (n ∷ held) (finish (freePlan b marks) at before (n ∷ held))
+      go : (t : Bool) → marks .null n ≡ t → Finish (b .node) at before held (finish (planFor b marks) at before held)
+          → Finish (b .node) at before (n ∷ held) (finish (planFor b marks) at before (n ∷ held))
       go true e f = rw e (finish-passed (marked .null-is n .0 e) f)
       go false e f = rw e (finish-barred (λ c. false≢true (sym e ∙ marked .null-is n .1 c)))
 
   pub run-is : (xs : List ℕ) (at : ℕ) (held : List ℕ) → Orderly (b .node) held
-      → Run (b .node) (b .kinds) held xs at (reads (freePlan b marks) at held xs)
+      → Run (b .node) (b .kinds) held xs at (reads (planFor b marks) unlimited at held xs)
   unfolding reads
   run-is [] at held o = run-finish (b .kinds) o (finish-is at held held)
   run-is (k ∷ xs) at held o = go (ltb k (b .kinds)) refl (λ then p. run-is xs (suc at) then p)
     where
       go : (t : Bool) → ltb k (b .kinds) ≡ t
-          → ((then : List ℕ) → Orderly (b .node) then → Run (b .node) (b .kinds) then xs (suc at) (reads (freePlan b marks) (suc at) then xs))
-          → Run (b .node) (b .kinds) held (k ∷ xs) at (reads (freePlan b marks) at held (k ∷ xs))
+          → ((then : List ℕ) → Orderly (b .node) then → Run (b .node) (b .kinds) then xs (suc at) (reads (planFor b marks) unlimited (suc at) then xs))
+          → Run (b .node) (b .kinds) held (k ∷ xs) at (reads (planFor b marks) unlimited at held (k ∷ xs))
       go true e f =
           rw e
-          (run-onward (λ then. reads (freePlan b marks) (suc at) then xs) (ltb-true k (b .kinds) e) o (event-is b formed marks marked k held o) f)
+          (run-onward (λ then. reads (planFor b marks) unlimited (suc at) then xs) (ltb-true k (b .kinds) e) o (event-is b formed marks marked k held o) f)
       go false e f =
           let h = ltb-false k (b .kinds) e in
-          rw e (run-unknown {i = at} (parted-here o (λ zs ps g. let c = held-kind g in omega arith)) h (omega arith))
+          rw e (run-refused {number = UNKNOWN} {i = at} (parted-here o (λ zs ps g. let c = held-kind g in omega arith)) (rw (le-ltb k (b .kinds) h)) (omega arith))

@@ -5,7 +5,7 @@ use mathlib.Core.List.{List, [], _∷_, _++_}
 use Rattle.book.specs.declared.Node.{Node}
 use Rattle.book.specs.declared.Node.the-variants.{Then}
 use Rattle.grammar.specs.Rules.{First, f-token, f-left, f-right, f-hold, f-skip, f-tagged, f-ref}
-use Rattle.plan.specs.Running.{emptied}
+use Rattle.running.specs.Running.{emptied}
 use Rattle.grammar.proofs.Facts.{nullable-productive, first-productive}
 use Rattle.meaning.proofs.Parts.{Part, part-token, part-left, part-right, part-alone, part-both, part-skip, part-tagged, part-ref, Held, held-none, held-some}
 

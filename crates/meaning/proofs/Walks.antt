@@ -8,10 +8,9 @@ use mathlib.Core.List.{List}
 use Rattle.words.proofs.Tests.{holds}
 use Rattle.book.specs.Book.{Book}
 use Rattle.grammar.specs.Rules.{Reach, First}
-use Rattle.plan.specs.Cells.{Marks, Marked, cellOf}
-use Rattle.plan.specs.Running.{taken, walk}
+use Rattle.running.specs.Cells.{Marks, Marked, cellOf, planFor}
+use Rattle.running.specs.Running.{unlimited, taken, walk}
 use Rattle.grammar.specs.Passing.{Passes}
-use Rattle.meaning.specs.Plans.{freePlan}
 use Rattle.grammar.proofs.Clear.{passes-clear}
 use Rattle.meaning.proofs.Machine.{walk-is, cell-other}
 use Rattle.meaning.proofs.Size.{size-below}
@@ -19,7 +18,7 @@ use Rattle.meaning.proofs.Walk.{after, recorded, size}
 
 module _ {b : Book} (passes : Passes b) (marks : Marks) (marked : Marked (b .node) marks) where
   pub walks-take : (n k : ℕ) → Reach (b .node) (b .start) n → cellOf marks k n (b .node n) ≢ 0 → (held : List ℕ)
-      → (then records : List ℕ) × (walk (freePlan b marks) k (b .count) n held ≡ taken then records)
+      → (then records : List ℕ) × (walk (planFor b marks) unlimited k (b .count) n held ≡ taken then records)
   walks-take n k reached some held =
       let first : marks .first n k ≡ true = holds _ (λ none. some (cell-other b marks marked k n (b .node n) none)) in
       let d : First (b .node) (b .node n) k = marked .first-is n k .0 first in
@@ -28,5 +27,5 @@ module _ {b : Book} (passes : Passes b) (marks : Marks) (marked : Marked (b .nod
       let visits : b .count ≡ b .count - size d + size d = omega arith in (
         after d held,
         recorded n d,
-        ap (λ (m : ℕ). walk (freePlan b marks) k m n held) visits ∙ walk-is b marks marked k (b .count - size d) n d held refl clear,
+        ap (λ (m : ℕ). walk (planFor b marks) unlimited k m n held) visits ∙ walk-is b marks marked k (b .count - size d) n d held refl clear,
       )

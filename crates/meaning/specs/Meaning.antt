@@ -1,12 +1,14 @@
 -- What a book means to a reading: the records of derivations, and what each answer means.
-use Prim.Native.Nat.{ℕ, suc, _<_, _≤_}
+use Prim.Native.Nat.{ℕ, suc, _<_}
 use mathlib.Core.Path.{_≡_}
 use mathlib.Core.List.{List, [], _∷_, _++_}
+use mathlib.Core.Bool.{cond}
+use lib.Dec.{ltb}
 use lib.ListN.{length, take, getD}
 use Rattle.book.specs.Book.{Book}
 use Rattle.book.specs.declared.Node.{Node}
 use Rattle.grammar.specs.Derivations.{Derives, d-empty, d-token, d-left, d-right, d-then, d-tagged, d-ref, Lawful, Begins}
-use Rattle.plan.specs.Running.{Answer, emptied, accepted, deep-at, unknown-at, unexpected-at, end-at, runaway-at}
+use Rattle.running.specs.Running.{UNKNOWN, UNEXPECTED, END, Answer, emptied, accepted, stopped}
 
 -- the records of a part, by the run it takes: a single empty record if it takes no event, else its node's and then those of its parts
 unfoldable pub partRecords : ℕ → List ℕ → List ℕ → List ℕ
@@ -45,19 +47,18 @@ pub record Ends (b : Book) (xs : List ℕ) (i : ℕ) : Type 0 where
   pub agrees : Begins b xs
   pub unlawful : Lawful b xs → ⊥
 
--- what an answer to a run means: accepted, with the tree of a derivation; refused at an event, of a kind that the book has or not; at an
--- end too soon; and no other. The parts held that a refusal carries only serve `expected`
+-- the number of a refusal of an event: 13, or 12 where the book has no such kind
+abbrev pub refusalOf : ℕ → ℕ → ℕ
+refusalOf kinds k = cond (ltb k kinds) UNEXPECTED UNKNOWN
+
+-- what an answer to a run means: accepted, with the tree of a derivation; refused at an event, by its kind; at an end too soon; and no
+-- other. The parts held that a refusal carries only serve `expected`
 pub data Means (b : Book) (xs : List ℕ) : Answer → Type 0 where
   means-accepted : {records : List ℕ} → Accepts b xs records → Means b xs (accepted records)
-  means-unexpected : {i : ℕ} {held : List ℕ} → Refuses b xs i → getD xs i 0 < b .kinds → Means b xs (unexpected-at i held)
-  means-unknown : {i : ℕ} {held : List ℕ} → Refuses b xs i → b .kinds ≤ getD xs i 0 → Means b xs (unknown-at i held)
-  means-end : {i : ℕ} {held : List ℕ} → Ends b xs i → Means b xs (end-at i held)
+  means-refused : {number i : ℕ} {held : List ℕ} → Refuses b xs i → number ≡ refusalOf (b .kinds) (getD xs i 0) → Means b xs (stopped number i held)
+  means-end : {i : ℕ} {held : List ℕ} → Ends b xs i → Means b xs (stopped END i held)
 
 -- an answer without the parts held that a refusal carries
-unfoldable pub told : Answer → Answer
-told (accepted records) = accepted records
-told (deep-at i) = deep-at i
-told (unknown-at i held) = unknown-at i []
-told (unexpected-at i held) = unexpected-at i []
-told (end-at i held) = end-at i []
-told (runaway-at i) = runaway-at i
+unfoldable pub withoutParts : Answer → Answer
+withoutParts (accepted records) = accepted records
+withoutParts (stopped number place held) = stopped number place []

@@ -1,5 +1,6 @@
 -- The form of a plan, and the plan that bytes are.
-use Prim.Native.Nat.{ℕ, _+_, _*_, _/_}
+use Prim.Native.Nat.{ℕ, _+_, _*_, _/_, _≤_, _<_}
+use mathlib.Core.Path.{_≡_}
 use mathlib.Core.Bool.{Bool, _&&_, _||_, cond}
 use mathlib.Core.List.{List}
 use lib.Dec.{ltb, leb, eqb}
@@ -11,7 +12,7 @@ use Rattle.book.specs.Form.{DONE, judged, entryIs, settingsGood}
 use Rattle.book.specs.declared.Judged.{Judged}
 use Rattle.book.specs.declared.Node.{Node}
 use Rattle.book.specs.declared.Node.the-variants.{Fail, Empty, Token, Either, Then, Tagged, Ref}
-use Rattle.plan.specs.Running.{Plan}
+use Rattle.running.specs.Running.{Plan}
 
 -- the answers' numbers
 abbrev pub PLAN-FORM : ℕ
@@ -51,9 +52,9 @@ planStart bytes = u16At bytes (planSettingsAt + 2)
 unfoldable pub cellAt : List ℕ → ℕ → ℕ → ℕ → ℕ → ℕ
 cellAt bytes count kinds n column = getD bytes (rowAt count kinds n + column) 0
 
--- the plan that bytes with so many nodes and kinds are, for a reading with free slots by a test
-unfoldable pub planFrom : List ℕ → ℕ → ℕ → (ℕ → Bool) → Plan
-planFrom bytes count kinds free =
+-- the plan that bytes with so many nodes and kinds are
+unfoldable pub planFrom : List ℕ → ℕ → ℕ → Plan
+planFrom bytes count kinds =
     record {
       count = count;
       kinds = kinds;
@@ -62,12 +63,11 @@ planFrom bytes count kinds free =
       right = λ n. rightOf (nodes bytes planNodesAt count n);
       cell = λ n k. cellAt bytes count kinds n k;
       null = λ n. eqb (cellAt bytes count kinds n kinds) 1;
-      free = free;
     }
 
 -- the plan that bytes are
-abbrev pub planOf : List ℕ → (ℕ → Bool) → Plan
-planOf bytes free = planFrom bytes (planCount bytes) (planKinds bytes) free
+abbrev pub planOf : List ℕ → Plan
+planOf bytes = planFrom bytes (planCount bytes) (planKinds bytes)
 
 -- a plan's length is that of its nodes and kinds, for 1 to 512 nodes
 abbrev pub sizeGood : ℕ → ℕ → ℕ → Bool
@@ -143,3 +143,15 @@ planJudged bytes =
     cond (planGood bytes (planCount bytes) (planKinds bytes))
     (cellsJudged bytes (planCount bytes) (planKinds bytes))
     (judged PLAN-FORM 0)
+
+-- bytes that are judged a plan, with its count of nodes and its kinds
+pub record Runnable (bytes : List ℕ) (count kinds : ℕ) : Type 0 where
+  pub good : planJudged bytes .number ≡ DONE
+  pub count-is : count ≡ planCount bytes
+  pub kinds-is : kinds ≡ planKinds bytes
+
+-- a node's row has a cell for a kind that is at least a number
+pub record RowHas (bytes : List ℕ) (n least : ℕ) : Type 0 where
+  pub kind : ℕ
+  pub known : kind < planKinds bytes
+  pub high : least ≤ planOf bytes .cell n kind

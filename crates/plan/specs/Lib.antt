@@ -1,5 +1,1 @@
-pub mod Bytes
-pub mod Cells
 pub mod Form
-pub mod Running
-pub mod Table

@@ -1,32 +1,23 @@
-// Plans: the form of a plan, numbers 8 and 9, and writing the plan of a book.
+// Plans: the form of a plan, numbers 8 and 9.
 ghost use mathlib.Core.Path.{_≡_};
-ghost use Prim.Native.Nat.{_+_, _*_, _-_, _≤_, _<_};
-ghost use mathlib.Core.List.{[], _∷_, _++_};
-ghost use mathlib.Core.Bool.{cond};
+ghost use Prim.Native.Nat.{_+_, _*_, _≤_, _<_};
 ghost use lib.Dec.{ltb};
-ghost use lib.ListN.{length, drop};
-ghost use lib.Seq.{sets};
-ghost use Rattle.words.specs.Words.{zeros};
-ghost use Rattle.book.specs.Book.{leftOf};
-ghost use Rattle.book.specs.Form.{bookOf};
+ghost use lib.ListN.{length};
 ghost use Rattle.plan.specs.Form.{oneCell, otherCell, badColumn, planSize, cellsJudged};
 ghost use Rattle.plan.specs.Form.{sizeGood, planContentsGood, planGood, planJudged};
-ghost use Rattle.plan.specs.Form.{rowsAt, rowAt};
-ghost use Rattle.plan.specs.Bytes.{wordBytes, planContents, rowOf, rowsOf, planBytes};
-ghost use Rattle.plan.specs.Table.{marksOf, farCell, rowBy, Writable, ClearFrom};
+ghost use Rattle.plan.specs.Form.{planNodesAt, planCount, planKinds, planStart, cellAt, planOf, Runnable, RowHas};
 use book::Judged;
 use book::Node;
 use book::entry_is;
 use book::first_bad;
 use book::node_at;
 use book::settings_good;
-use kinds::has;
-use kinds::lowest;
-use kinds::without;
-use words::put_u16;
 use words::u16_at;
+use words::wide;
 
-// Where a plan's settings and nodes begin.
+// Where the length of a plan's nodes stands, and where its settings and nodes begin.
+const NODES_LENGTH_AT: usize = 12;
+
 pub const SETTINGS_AT: usize = 20;
 
 pub const NODES_AT: usize = 24;
@@ -36,8 +27,56 @@ pub const PLAN_FORM: u32 = 8;
 
 pub const CELL: u32 = 9;
 
+// How many nodes a plan has, by the length of its nodes.
+pub fn plan_count(plan: &[u8]) -> usize
+    requires { ⌜ planNodesAt ≤ length (now plan) ⌝ }
+    ensures { λ r. ⌜ (r ≡ planCount (now (plan .entry))) × (r < 65536) ⌝ }
+{
+    u16_at(plan, NODES_LENGTH_AT) / 6
+}
+
+// How many kinds a plan has, by its settings.
+pub fn plan_kinds(plan: &[u8]) -> usize
+    requires { ⌜ planNodesAt ≤ length (now plan) ⌝ }
+    ensures { λ r. ⌜ (r ≡ planKinds (now (plan .entry))) × (r < 65536) ⌝ }
+{
+    u16_at(plan, SETTINGS_AT)
+}
+
+// A plan's start, by its settings.
+pub fn plan_start(plan: &[u8]) -> usize
+    requires { ⌜ planNodesAt ≤ length (now plan) ⌝ }
+    ensures { λ r. ⌜ (r ≡ planStart (now (plan .entry))) × (r < 65536) ⌝ }
+{
+    u16_at(plan, SETTINGS_AT + 2)
+}
+
+// The cell of a node's row in a column.
+pub fn cell_at(plan: &[u8], count: usize, kinds: usize, node: usize, column: usize) -> usize
+    requires { ⌜ (Runnable (now plan) count kinds) × (node < count) × (column ≤ kinds) ⌝ }
+    ensures { λ r. ⌜ (r ≡ cellAt (now (plan .entry)) count kinds node column) × (r < 256) ⌝ }
+{
+    wide(plan[NODES_AT + 6 * count + node * (kinds + 1) + column])
+}
+
+// The left of a node whose row has a cell of 2 or more.
+pub fn left_at(plan: &[u8], node: usize) -> usize
+    requires { ⌜ (planJudged (now plan) .number ≡ 0) × (node < planCount (now plan)) × (RowHas (now plan) node 2) ⌝ }
+    ensures { λ r. ⌜ r ≡ planOf (now (plan .entry)) .left node ⌝ }
+{
+    u16_at(plan, NODES_AT + 6 * node + 2)
+}
+
+// The right of a node whose row has a cell of 3 or more.
+pub fn right_at(plan: &[u8], node: usize) -> usize
+    requires { ⌜ (planJudged (now plan) .number ≡ 0) × (node < planCount (now plan)) × (RowHas (now plan) node 3) ⌝ }
+    ensures { λ r. ⌜ r ≡ planOf (now (plan .entry)) .right node ⌝ }
+{
+    u16_at(plan, NODES_AT + 6 * node + 4)
+}
+
 // The lower cell for kinds that a node's type has beside 0; 0 where it has none.
-fn one_cell(node: Node) -> u8
+pub fn one_cell(node: Node) -> u8
     ensures { λ r. ⌜ r ≡ oneCell node ⌝ }
 {
     match node {
@@ -66,7 +105,7 @@ fn other_cell(node: Node) -> u8
     }
 }
 
-// The first column of a row with a bad cell, for the two cells that its node's type has beside 0; K + 1 where there is none.
+// The first column of a row with a bad cell, for the two cells that its node's type has; K + 1 where there is none.
 fn bad_column(plan: &[u8], at: usize, kinds: usize, one: u8, other: u8) -> usize
     requires { ⌜ at + (kinds + 1) ≤ length (now plan) ⌝ }
     ensures { λ r. ⌜ r ≡ badColumn (now (plan .entry)) at kinds one other ⌝ }
@@ -170,8 +209,8 @@ pub fn judge(plan: &[u8]) -> Judged
             place: 0,
         };
     }
-    let count = u16_at(plan, 12) / 6;
-    let kinds = u16_at(plan, SETTINGS_AT);
+    let count = plan_count(plan);
+    let kinds = plan_kinds(plan);
     if !plan_good(plan, count, kinds) {
         return Judged {
             number: PLAN_FORM,
@@ -181,155 +220,10 @@ pub fn judge(plan: &[u8]) -> Judged
     judge_cells(plan, count, kinds)
 }
 
-// Writes a contents entry: section number, offset, length.
-fn put_entry(plan: &mut [u8], at: usize, section: usize, offset: usize, size: usize)
-    requires { ⌜ (at + 6 ≤ length (now plan)) × (section < 65536) × (offset < 65536) × (size < 65536) ⌝ }
-    ensures { λ _. ⌜ now (plan .exit) ≡ sets (now (plan .entry)) at (wordBytes (section ∷ offset ∷ size ∷ [])) ⌝ }
+// The size of the plan of a book with so many nodes and kinds.
+pub fn plan_size(count: usize, kinds: usize) -> usize
+    requires { ⌜ (count ≤ 512) × (kinds ≤ 64) ⌝ }
+    ensures { λ r. ⌜ (r ≡ planSize count kinds) × (r < 65536) ⌝ }
 {
-    put_u16(plan, at, section);
-    put_u16(plan, at + 2, offset);
-    put_u16(plan, at + 4, size);
-}
-
-// Writes a plan's contents: count 3, and the entries of settings, nodes and rows.
-fn put_contents(plan: &mut [u8], count: usize, kinds: usize)
-    requires { ⌜ (planSize count kinds ≤ length (now plan)) × (planSize count kinds < 65536) × (kinds < 65536) ⌝ }
-    ensures { λ _. ⌜ now (plan .exit) ≡ sets (now (plan .entry)) 0 (planContents count kinds) ⌝ }
-{
-    put_u16(plan, 0, 3);
-    put_entry(plan, 2, 1, SETTINGS_AT, 4);
-    put_entry(plan, 8, 2, NODES_AT, 6 * count);
-    put_entry(plan, 14, 3, NODES_AT + 6 * count, count * (kinds + 1));
-}
-
-// Writes a book's settings and nodes.
-fn put_book(plan: &mut [u8], book: &[u8])
-    requires { ⌜ (14 ≤ length (now book)) × (6 + length (now book) ≤ length (now plan)) ⌝ }
-    ensures { λ _. ⌜ now (plan .exit) ≡ sets (now (plan .entry)) 20 (drop 14 (now (book .entry))) ⌝ }
-{
-    let size = book.len() - book::SETTINGS_AT;
-    let mut i = 0;
-    while i < size {
-        plan[SETTINGS_AT + i] = book[book::SETTINGS_AT + i];
-        i += 1;
-    }
-}
-
-// The left of a node, 0 where it has none.
-fn left_of(node: Node) -> usize
-    ensures { λ r. ⌜ r ≡ leftOf node ⌝ }
-{
-    match node {
-        Node::Fail => 0,
-        Node::Empty => 0,
-        Node::Token(_) => 0,
-        Node::Either(left, _) => left,
-        Node::Then(left, _) => left,
-        Node::Tagged(left, _) => left,
-        Node::Ref(left) => left,
-    }
-}
-
-// One of two cells.
-fn cell_if(test: bool, cell: u8, other: u8) -> u8
-    ensures { λ r. ⌜ r ≡ cond test cell other ⌝ }
-{
-    if test {
-        return cell;
-    }
-    other
-}
-
-// The cell of a node for a kind in FIRST(node) that is not in FIRST(left), given a then's.
-fn far_cell(node: Node, skip: u8) -> u8
-    ensures { λ r. ⌜ r ≡ farCell node skip ⌝ }
-{
-    match node {
-        Node::Fail => 0,
-        Node::Empty => 0,
-        Node::Token(_) => 1,
-        Node::Either(_, _) => 5,
-        Node::Then(_, _) => skip,
-        Node::Tagged(_, _) => 2,
-        Node::Ref(_) => 2,
-    }
-}
-
-// Writes a row into zeros: for each kind in FIRST(node) one cell if it is in FIRST(left), another if not; then the nullable mark.
-fn put_row(
-    plan: &mut [u8],
-    at: usize,
-    kinds: usize,
-    first: u64,
-    left: u64,
-    near: u8,
-    far: u8,
-    mark: u8,
-)
-    requires { ⌜ (at + (kinds + 1) ≤ length (now plan)) × (kinds ≤ 64) × ClearFrom (now plan) at ⌝ }
-    ensures { λ _. ⌜ now (plan .exit) ≡ sets (now (plan .entry)) at (rowBy first left near far kinds mark) ⌝ }
-{
-    let mut rest = first;
-    let mut k = lowest(rest);
-    while k < kinds {
-        plan[at + k] = cell_if(has(left, k), near, far);
-        rest = without(rest, k);
-        k = lowest(rest);
-    }
-    plan[at + kinds] = mark;
-}
-
-// Writes the row of a node, by a table of facts, at its offset, into zeros.
-fn write_row(
-    book: &[u8],
-    n: usize,
-    count: usize,
-    kinds: usize,
-    table: &[u64],
-    plan: &mut [u8],
-    at: usize,
-)
-    requires { ⌜ Writable (now book) (now table) (now plan) count kinds × (n < count) × (at ≡ rowAt count kinds n) × ClearFrom (now plan) at ⌝ }
-    ensures { λ _. ⌜ now (plan .exit) ≡ sets (now (plan .entry)) at (rowOf (marksOf (now (table .entry)) count) (bookOf (now (book .entry))) n) ⌝ }
-{
-    let node = node_at(book, book::NODES_AT, n);
-    let left = left_of(node);
-    let first = table[4 * n + 2];
-    let left_first = table[4 * left + 2];
-    let mark = cell_if(has(table[4 * n + 1], 0), 1, 0);
-    let skip = cell_if(has(table[4 * left + 1], 0), 4, 3);
-    put_row(
-        plan,
-        at,
-        kinds,
-        first,
-        left_first,
-        one_cell(node),
-        far_cell(node, skip),
-        mark,
-    );
-}
-
-// Writes all rows, by a table of facts, into zeros.
-fn write_rows(book: &[u8], count: usize, kinds: usize, table: &[u64], plan: &mut [u8])
-    requires { ⌜ Writable (now book) (now table) (now plan) count kinds × ClearFrom (now plan) (rowsAt count) ⌝ }
-    ensures { λ _. ⌜ now (plan .exit) ≡ sets (now (plan .entry)) (rowsAt count) (rowsOf (marksOf (now (table .entry)) count) (bookOf (now (book .entry)))) ⌝ }
-{
-    let mut at = NODES_AT + 6 * count;
-    let mut n = 0;
-    while n < count {
-        write_row(book, n, count, kinds, table, plan, at);
-        at += kinds + 1;
-        n += 1;
-    }
-}
-
-// Writes the plan of a book of good form, by a table of facts, into the front of a clear buffer.
-pub fn write_plan(book: &[u8], count: usize, kinds: usize, table: &[u64], plan: &mut [u8])
-    requires { ⌜ Writable (now book) (now table) (now plan) count kinds × (now plan ≡ zeros (length (now plan))) ⌝ }
-    ensures { λ _. ⌜ now (plan .exit) ≡ planBytes (now (book .entry)) (marksOf (now (table .entry)) count) ++ zeros (length (now (plan .entry)) - planSize count kinds) ⌝ }
-{
-    put_contents(plan, count, kinds);
-    put_book(plan, book);
-    write_rows(book, count, kinds, table, plan);
+    NODES_AT + 6 * count + count * (kinds + 1)
 }

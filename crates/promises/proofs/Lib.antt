@@ -1,4 +1,6 @@
+mod Answers
 pub mod Kept
+pub mod Listing
 mod Meant
 mod More
 mod Outcomes

@@ -3,48 +3,53 @@ use Prim.Native.Nat.{ℕ, _+_, _-_, _≤_, _<_}
 use native.Mathlib.Decide.{decLe}
 use native.Mathlib.Omega.{arith}
 use borrow.Author.Tests.{lt-leb}
+use mathlib.Core.Bool.{Bool}
 use mathlib.Core.Path.{_≡_, sym, ap, _∙_}
 use mathlib.Core.List.{List, [], _∷_}
-use mathlib.Core.Logic.{inl, _≢_}
-use lib.Dec.{ltb}
+use mathlib.Core.Logic.{_⊎_, inl, inr, ⊎-elim, _≢_}
 use lib.ListN.{length, take}
 use lib.Seq.{take-at}
 use Rattle.book.specs.Form.{DONE, bookOf}
 use Rattle.book.specs.declared.Judged.{Judged}
-use Rattle.book.proofs.Decoded.{formed, well-formed}
-use Rattle.plan.specs.Bytes.{planBytes, planFor}
+use Rattle.book.proofs.Decoded.{Formed, formed}
+use Rattle.grammar.specs.Derivations.{Lawful}
+use Rattle.running.specs.Running.{DEEP, Plan, withSlots, unlimited, Answer, accepted, reading}
+use Rattle.running.specs.Cells.{planFor}
+use Rattle.running.proofs.Records.{records-few, records-events, records-empty}
+use Rattle.running.proofs.Slots.{slots-free, slots-answer}
 use Rattle.plan.specs.Form.{planOf, planJudged}
-use Rattle.plan.specs.Running.{Plan, accepted, reading}
-use Rattle.plan.proofs.Records.{records-few, records-events, records-empty}
-use Rattle.plan.proofs.PlanDone.{plan-done, plan-reads}
+use Rattle.writer.specs.Bytes.{planBytes}
+use Rattle.writer.proofs.PlanDone.{plan-done, plan-reads}
 use Rattle.compiler.specs.declared.Compiled.{Compiled}
 use Rattle.compiler.specs.Compiles.{Compiles}
-use Rattle.compiler.proofs.Promise.{Passed, passed, passed-size, plan-long}
-use Rattle.reader.specs.Numbers.{DEEP, NO-ROOM}
+use Rattle.compiler.proofs.Promise.{Passed, passed, passed-form, passed-passes, passed-size, plan-long}
+use Rattle.reader.specs.Numbers.{NO-ROOM}
 use Rattle.reader.specs.Reads.{Outcome, acceptedOf, outcomeOf, runOf, readOf}
 use Rattle.reader.proofs.Answers.{read-told, records-counted}
 use Rattle.reader.proofs.Settles.{read-runs}
-use Rattle.grammar.specs.Passing.{Passes}
-use Rattle.meaning.specs.Plans.{freePlan}
-use Rattle.meaning.proofs.Slots.{slots-free}
+use Rattle.meaning.specs.Meaning.{tree, Means, means-accepted, means-refused, means-end}
 use Rattle.meaning.proofs.Theorem.{reading-means}
 use Rattle.promises.specs.Promises.{slotsEnough, roomEnough, ReadsAsMeant, FewRecords}
 use Rattle.promises.proofs.More.{slots-more}
 use Rattle.promises.proofs.Outcomes.{reads-as-meant}
 
+-- an outcome as a book means it
+abbrev Meant : List ℕ → List ℕ → ℕ → Outcome → Type 0
+Meant bytes run room o = ReadsAsMeant (bookOf bytes) run room (o .reading) (o .tree)
+
 -- an accepted run has few records
-few-records : (p : Plan) (run : List ℕ) {records : List ℕ} → 0 < p .count → reading p run ≡ accepted records
+few-records : (p : Plan) (free : ℕ → Bool) (run : List ℕ) {records : List ℕ} → 0 < p .count → reading p free run ≡ accepted records
     → FewRecords (p .count) (length run) (length records)
-few-records p [] {records} some e =
+few-records p free [] {records} some e =
     record {
-      sharp = records-few p [] e;
+      sharp = records-few p free [] e;
       some-events = λ events. absurd (omega arith);
-      no-events = λ none. ap length (records-empty p e);
+      no-events = λ none. ap length (records-empty p free e);
     }
-few-records p (k ∷ run) {records} some e =
+few-records p free (k ∷ run) {records} some e =
     record {
-      sharp = records-few p (k ∷ run) e;
-      some-events = λ events. records-events p (k ∷ run) some events e;
+      sharp = records-few p free (k ∷ run) e;
+      some-events = λ events. records-events p free (k ∷ run) some events e;
       no-events = λ none. absurd (omega arith);
     }
 
@@ -62,58 +67,63 @@ module _ {bytes : List ℕ} {room : ℕ} {a : Compiled} {plan : List ℕ} (compi
   known : Passed bytes room plan
   known = passed compiled is
 
-  -- a book that the compiler passes is a passed book
-  pub passed-passes : Passes (bookOf bytes)
-  passed-passes =
-      record { well-formed = well-formed (formed bytes (known .form)); productive = known .fruitful; no-conflict = known .free }
+  form : Formed bytes
+  form = formed bytes (passed-form compiled is)
 
   -- the bytes that the reader is given
   given-plan : take (a .size) plan ≡ planBytes bytes (known .marks)
   given-plan =
       (λ i. take (passed-size compiled is i) (known .plan-is i))
-      ∙ take-at (planBytes bytes (known .marks)) _ _ (plan-long bytes (known .marks) (formed bytes (known .form)))
+      ∙ take-at (planBytes bytes (known .marks)) _ _ (plan-long bytes (known .marks) form)
 
-  -- with slots enough the machine on the plan's bytes answers as the free one
-  reading-free : (run : List ℕ) (slots : ℕ) → slotsEnough (bookOf bytes .count) (length run) ≤ slots
-      → reading (planOf (planBytes bytes (known .marks)) (λ n. ltb n slots)) run ≡ reading (freePlan (bookOf bytes) (known .marks)) run
-  reading-free run slots enough =
-      plan-reads bytes (known .marks) (formed bytes (known .form)) (λ n. ltb n slots) run
-      ∙ slots-free (freePlan (bookOf bytes) (known .marks)) run slots enough
+  -- the plan by the facts, and what the machine without a limit answers by it
+  abbrev by-facts : Plan
+  by-facts = planFor (bookOf bytes) (known .marks)
 
-  -- with slots enough a reading comes to what the free machine answers
-  reads-free : (run : List ℕ) (slots tree-room : ℕ) → length run ≤ 65535 → slotsEnough (bookOf bytes .count) (length run) ≤ slots
+  abbrev free-answer : List ℕ → Answer
+  free-answer run = reading by-facts unlimited run
+
+  -- a reading of the plan runs it
+  reads-run : (run : List ℕ) (slots tree-room : ℕ) → length run ≤ 65535 → 0 < slots
       → readOf (take (a .size) plan) run slots tree-room
-      ≡ outcomeOf (planOf (planBytes bytes (known .marks)) (λ n. ltb n slots)) (length run) tree-room (reading (freePlan (bookOf bytes) (known .marks)) run)
+      ≡ outcomeOf (planOf (planBytes bytes (known .marks))) (length run) tree-room (reading by-facts (withSlots slots) run)
   unfolding runOf
-  reads-free run slots tree-room short enough =
+  reads-run run slots tree-room short some =
       let written = planBytes bytes (known .marks) in
-      let judged-done : planJudged written .number ≡ DONE = ap (λ (j : Judged). j .number) (plan-done bytes (known .marks) (formed bytes (known .form))) in
+      let judged-done : planJudged written .number ≡ DONE = ap (λ (j : Judged). j .number) (plan-done bytes (known .marks) form) in
       ap (λ (given : List ℕ). readOf given run slots tree-room) given-plan
-      ∙ read-runs written run slots tree-room judged-done short (omega arith)
-      ∙ ap (outcomeOf (planOf written (λ n. ltb n slots)) (length run) tree-room) (reading-free run slots enough)
+      ∙ read-runs written run slots tree-room judged-done short some
+      ∙ ap (outcomeOf (planOf written) (length run) tree-room) (plan-reads bytes (known .marks) form (withSlots slots) run)
+
+  -- with slots enough a reading comes to what the machine without a limit answers
+  reads-free : (run : List ℕ) (slots tree-room : ℕ) → length run ≤ 65535 → slotsEnough (bookOf bytes .count) (length run) ≤ slots
+      → readOf (take (a .size) plan) run slots tree-room ≡ outcomeOf (planOf (planBytes bytes (known .marks))) (length run) tree-room (free-answer run)
+  reads-free run slots tree-room short enough =
+      reads-run run slots tree-room short (omega arith)
+      ∙ ap (outcomeOf (planOf (planBytes bytes (known .marks))) (length run) tree-room) (slots-free by-facts run slots enough)
 
   -- so it is as the book means, where the tree has room for the records of an accepted run
   reads-meant : (run : List ℕ) (p : Plan) (tree-room : ℕ)
-      → ((records : List ℕ) → reading (freePlan (bookOf bytes) (known .marks)) run ≡ accepted records → length records ≤ tree-room)
-      → ReadsAsMeant (bookOf bytes) run tree-room (outcomeOf p (length run) tree-room (reading (freePlan (bookOf bytes) (known .marks)) run))
+      → ((records : List ℕ) → free-answer run ≡ accepted records → length records ≤ tree-room)
+      → Meant bytes run tree-room (outcomeOf p (length run) tree-room (free-answer run))
   reads-meant run p tree-room fits =
-      reads-as-meant passed-passes p tree-room (reading-means passed-passes (known .marks) (known .marked) run) fits
+      reads-as-meant (passed-passes compiled is) p tree-room (reading-means (passed-passes compiled is) (known .marks) (known .marked) run) fits
 
   pub passed-reads : (run : List ℕ) (slots tree-room : ℕ) → length run ≤ 65535
       → slotsEnough (bookOf bytes .count) (length run) ≤ slots → roomEnough (bookOf bytes .count) (length run) ≤ tree-room
-      → ReadsAsMeant (bookOf bytes) run tree-room (readOf (take (a .size) plan) run slots tree-room)
+      → Meant bytes run tree-room (readOf (take (a .size) plan) run slots tree-room)
   passed-reads run slots tree-room short slots-do room-does =
       rw (reads-free run slots tree-room short slots-do)
-      (reads-meant run _ tree-room (λ records e. let few = records-few (freePlan (bookOf bytes) (known .marks)) run e in omega arith))
+      (reads-meant run _ tree-room (λ records e. let few = records-few by-facts unlimited run e in omega arith))
 
   -- whatever the slots and the tree room, where the answer is neither DEEP nor NO ROOM
   pub passed-reads-any : (run : List ℕ) (slots tree-room : ℕ) → length run ≤ 65535
       → readOf (take (a .size) plan) run slots tree-room .reading .number ≢ DEEP
       → readOf (take (a .size) plan) run slots tree-room .reading .number ≢ NO-ROOM
-      → ReadsAsMeant (bookOf bytes) run tree-room (readOf (take (a .size) plan) run slots tree-room)
+      → Meant bytes run tree-room (readOf (take (a .size) plan) run slots tree-room)
   passed-reads-any run slots tree-room short not-deep roomy =
       let more = slots + slotsEnough (bookOf bytes .count) (length run) in
-      let p = planOf (planBytes bytes (known .marks)) (λ n. ltb n more) in
+      let p = planOf (planBytes bytes (known .marks)) in
       let is = slots-more (take (a .size) plan) run slots tree-room more (omega arith) not-deep ∙ reads-free run more tree-room short (omega arith) in
       rw is
       (reads-meant run p tree-room
@@ -121,10 +131,35 @@ module _ {bytes : List ℕ} {room : ℕ} {a : Compiled} {plan : List ℕ} (compi
       room-fits p (length run) tree-room records
       (λ full. roomy (ap (λ (o : Outcome). o .reading .number) (is ∙ ap (outcomeOf p (length run) tree-room) e) ∙ full))))
 
+  -- an accepted run, also where the tree has no room: the records counted are those of the machine by the facts
+  counted : (run : List ℕ) (slots tree-room : ℕ)
+      → (readOf (take (a .size) plan) run slots tree-room .reading .number ≡ DONE) ⊎ (readOf (take (a .size) plan) run slots tree-room .reading .number ≡ NO-ROOM)
+      → (records : List ℕ) × (reading by-facts (withSlots slots) run ≡ accepted records)
+      × (readOf (take (a .size) plan) run slots tree-room .reading .records ≡ length records)
+  counted run slots tree-room accepts =
+      let written = planBytes bytes (known .marks) in
+      let found = records-counted (read-told written run slots tree-room) (rw given-plan at accepts) in
+      rw given-plan
+      (found .0, sym (plan-reads bytes (known .marks) form (withSlots slots) run) ∙ found .1, found .2)
+
   pub passed-records : (run : List ℕ) (slots tree-room : ℕ) → readOf (take (a .size) plan) run slots tree-room .reading .number ≡ DONE
       → FewRecords (bookOf bytes .count) (length run) (readOf (take (a .size) plan) run slots tree-room .reading .records)
   passed-records run slots tree-room accepts =
-      let found = records-counted (read-told (planBytes bytes (known .marks)) run slots tree-room) (inl (rw given-plan at accepts)) in
-      rw (given-plan, found .2)
-      (few-records (planFor (bookOf bytes) (known .marks) (λ n. ltb n slots)) run (passed-passes .well-formed .some-node)
-      (sym (plan-reads bytes (known .marks) (formed bytes (known .form)) (λ n. ltb n slots) run) ∙ found .1))
+      let found = counted run slots tree-room (inl accepts) in
+      rw (found .2) (few-records by-facts (withSlots slots) run (passed-passes compiled is .well-formed .some-node) (found .1))
+
+  -- NO ROOM: the run is lawful, and its tree has that many records
+  pub passed-no-room : (run : List ℕ) (slots tree-room : ℕ) → readOf (take (a .size) plan) run slots tree-room .reading .number ≡ NO-ROOM
+      → (d : Lawful (bookOf bytes) run)
+      × (readOf (take (a .size) plan) run slots tree-room .reading .records ≡ length (tree (bookOf bytes .start) d))
+  passed-no-room run slots tree-room full =
+      let found = counted run slots tree-room (inr full) in
+      let means = reading-means (passed-passes compiled is) (known .marks) (known .marked) run in
+      let meant = lawful means (⊎-elim (λ deep. cc) (λ same. sym same ∙ found .1) (slots-answer by-facts run slots)) in
+      (meant .0, found .2 ∙ ap length (meant .1))
+    where
+      lawful : {answer : Answer} {records : List ℕ} → Means (bookOf bytes) run answer → answer ≡ accepted records
+          → (d : Lawful (bookOf bytes) run) × (records ≡ tree (bookOf bytes .start) d)
+      lawful {records = records} (means-accepted {records = written} m) is = (m .derivation, (let same : records ≡ written = cc in same) ∙ m .records-are)
+      lawful (means-refused r number-is) is = let never : _≡_ {A = ℕ} 0 1 = cc in absurd (omega arith)
+      lawful (means-end m) is = let never : _≡_ {A = ℕ} 0 1 = cc in absurd (omega arith)

@@ -1,46 +1,28 @@
 -- More slots and more tree room never change an answer other than DEEP and NO ROOM. Of any plan, forged or not.
-use Prim.Native.Nat.{ℕ, zero, suc, _+_, _-_, _^_, _≤_, _<_}
+use Prim.Native.Nat.{ℕ, _+_, _-_, _≤_, _<_}
 use native.Mathlib.Omega.{arith}
 use native.Mathlib.Decide.{decLe, decLt, ℕ-discrete}
 use borrow.Author.Tests.{le-leb, lt-leb}
-use mathlib.Core.Path.{_≡_, refl, sym, ap, _∙_}
-use mathlib.Core.Bool.{Bool}
+use mathlib.Core.Path.{_≡_, refl, sym, ap, subst, _∙_}
 use mathlib.Core.Logic.{_≢_}
-use mathlib.Core.List.{List, [], _∷_, _++_, append-assoc}
-use lib.Dec.{ltb}
+use mathlib.Core.List.{List, _++_, append-assoc}
 use lib.ListN.{length, replicate-append-replicate}
 use Rattle.words.specs.Words.{zeros}
 use Rattle.book.specs.Form.{DONE}
-use Rattle.plan.specs.Form.{planOf, planFrom, planJudged}
-use Rattle.plan.specs.Running.{Plan, Answer, accepted, deep-at, unknown-at, unexpected-at, end-at, runaway-at, takenCell, rowFirst, expected, reading}
+use Rattle.plan.specs.Form.{planOf, planJudged}
+use Rattle.running.specs.Running.{DEEP, Plan, withSlots, Answer, accepted, stopped, reading}
+use Rattle.running.proofs.Slots.{more-slots}
 use Rattle.reader.specs.declared.Reading.{Reading}
-use Rattle.reader.specs.Numbers.{DEEP, NO-ROOM, answered}
-use Rattle.reader.specs.Reads.{Outcome, outcome, bare, acceptedOf, outcomeOf, runOf, readOf}
+use Rattle.reader.specs.Numbers.{NO-ROOM, answered}
+use Rattle.reader.specs.Reads.{Outcome, outcome, bare, acceptedOf, outcomeOf, runOf, readOf, Reads}
 use Rattle.reader.proofs.Settles.{read-form, read-long, read-slotless, read-runs}
-use Rattle.meaning.specs.Plans.{withFree}
-use Rattle.meaning.proofs.Slots.{more-slots}
 use Rattle.promises.specs.Promises.{wider}
 
--- what is expected does not hang on the slots
-module _ (p : Plan) (free : ℕ → Bool) where
-  row-same : (n k : ℕ) → rowFirst p n k ≡ rowFirst (withFree p free) n k
-  unfolding rowFirst
-  row-same n zero = refl
-  row-same n (suc k) = ap (λ (sum : ℕ). takenCell (p .cell n k) (2 ^ k) + sum) (row-same n k)
-
-  expected-same : (held : List ℕ) → expected p held ≡ expected (withFree p free) held
-  unfolding expected
-  expected-same [] = refl
-  expected-same (n ∷ held) = row-same n (p .kinds)
-
-  outcome-same : (size room : ℕ) (a : Answer) → outcomeOf p size room a ≡ outcomeOf (withFree p free) size room a
-  unfolding outcomeOf
-  outcome-same size room (accepted records) = refl
-  outcome-same size room (deep-at i) = refl
-  outcome-same size room (unknown-at i held) = rw (expected-same held)
-  outcome-same size room (unexpected-at i held) = rw (expected-same held)
-  outcome-same size room (end-at i held) = rw (expected-same held)
-  outcome-same size room (runaway-at i) = refl
+-- what holds of a reading's outcome holds of a call's answer and of what it leaves of the tree
+pub by-call : (Of : Reading → List ℕ → Type 0) {plan run held tree : List ℕ} {r : Reading} {held-after tree-after : List ℕ}
+    → Reads plan run held tree r held-after tree-after
+    → Of (readOf plan run (length held) (length tree) .reading) (readOf plan run (length held) (length tree) .tree) → Of r tree-after
+by-call Of read holds = subst (λ (o : Outcome). Of (o .reading) (o .tree)) (sym (read .outcome-is)) holds
 
 -- what decides a reading: the plan's form, the run's length, that there is no slot, or the run
 data Course (plan run : List ℕ) (slots : ℕ) : Type 0 where
@@ -62,21 +44,18 @@ course plan run slots =
 
 module _ (plan run : List ℕ) (slots room more : ℕ) (grows : slots ≤ more) (not-deep : readOf plan run slots room .reading .number ≢ DEEP) where
   slots-by : Course plan run slots → readOf plan run slots room ≡ readOf plan run more room
-  unfolding runOf planFrom outcomeOf
+  unfolding runOf outcomeOf
   slots-by (by-form bad) = read-form plan run slots room bad ∙ sym (read-form plan run more room bad)
   slots-by (by-length good long) = read-long plan run slots room good long ∙ sym (read-long plan run more room good long)
   slots-by (by-slots good short none) =
       absurd (not-deep (ap (λ (o : Outcome). o .reading .number) (read-slotless plan run slots room good short none)))
   slots-by (by-run good short some) =
-      let own = planOf plan (λ n. ltb n slots) in
-      let same : reading own run ≡ reading (planOf plan (λ n. ltb n more)) run =
-      more-slots own run slots more grows
-      (λ i deep. not-deep (ap (λ (o : Outcome). o .reading .number) (read-runs plan run slots room good short some ∙ ap (outcomeOf own (length run) room) deep)))
+      let here = read-runs plan run slots room good short some in
+      let same : reading (planOf plan) (withSlots slots) run ≡ reading (planOf plan) (withSlots more) run =
+      more-slots (planOf plan) run slots more grows
+      (λ i held deep. not-deep (ap (λ (o : Outcome). o .reading .number) (here ∙ ap (outcomeOf (planOf plan) (length run) room) deep)))
       in
-      read-runs plan run slots room good short some
-      ∙ ap (outcomeOf own (length run) room) same
-      ∙ outcome-same own (λ n. ltb n more) (length run) room (reading (planOf plan (λ n. ltb n more)) run)
-      ∙ sym (read-runs plan run more room good short (omega arith))
+      here ∙ ap (outcomeOf (planOf plan) (length run) room) same ∙ sym (read-runs plan run more room good short (omega arith))
 
   -- with more slots
   pub slots-more : readOf plan run slots room ≡ readOf plan run more room
@@ -111,11 +90,7 @@ module _ (room more : ℕ) (grows : room ≤ more) where
         | no full ↦
             absurd (roomy (rw (lt-leb (length records) room (omega arith))))
       ]
-  outcome-wider p size (deep-at i) roomy = bare-wider _
-  outcome-wider p size (unknown-at i held) roomy = bare-wider _
-  outcome-wider p size (unexpected-at i held) roomy = bare-wider _
-  outcome-wider p size (end-at i held) roomy = bare-wider _
-  outcome-wider p size (runaway-at i) roomy = bare-wider _
+  outcome-wider p size (stopped number place held) roomy = bare-wider _
 
   module _ (plan run : List ℕ) (slots : ℕ) (roomy : readOf plan run slots room .reading .number ≢ NO-ROOM) where
     both-bare : {r : Reading} → readOf plan run slots more ≡ bare more r → readOf plan run slots room ≡ bare room r
@@ -131,7 +106,7 @@ module _ (room more : ℕ) (grows : room ≤ more) where
     room-by (by-run good short some) =
         let here = read-runs plan run slots room good short some in
         read-runs plan run slots more good short some
-        ∙ outcome-wider (planOf plan (λ n. ltb n slots)) (length run) (reading (planOf plan (λ n. ltb n slots)) run)
+        ∙ outcome-wider (planOf plan) (length run) (reading (planOf plan) (withSlots slots) run)
         (λ e. roomy (ap (λ (o : Outcome). o .reading .number) here ∙ e))
         ∙ ap (wider room more) (sym here)
 

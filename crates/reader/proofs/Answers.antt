@@ -10,15 +10,16 @@ use lib.Dec.{ltb, leb, eqb}
 use lib.ListN.{length, length-append, length-replicate}
 use Rattle.words.specs.Words.{zeros}
 use Rattle.book.specs.Form.{DONE}
-use Rattle.plan.specs.Running.{Plan, Answer, accepted, deep-at, unknown-at, unexpected-at, end-at, runaway-at, expected, reading}
+use Rattle.running.specs.Running.{Plan, withSlots, Answer, accepted, stopped, expected, tells, reading, DEEP}
 use Rattle.book.specs.Form.{judged}
 use Rattle.book.specs.Decode.{firstBad}
 use Rattle.book.specs.declared.Judged.{Judged}
 use Rattle.plan.specs.Form.{PLAN-FORM, CELL, planOf, planCount, planKinds, planJudged, planGood, rowGood, cellsJudged}
 use Rattle.reader.specs.declared.Reading.{Reading}
-use Rattle.reader.specs.Numbers.{LONG, DEEP, UNKNOWN, UNEXPECTED, END, RUNAWAY, NO-ROOM, answered}
+use Rattle.reader.specs.Numbers.{LONG, NO-ROOM, answered}
 use Rattle.reader.specs.Reads.{Outcome, Reads, bare, acceptedOf, outcomeOf, runOf, readOf}
-use Rattle.plan.proofs.Records.{records-few}
+use Rattle.running.proofs.Records.{records-few}
+use Rattle.reader.proofs.Refusals.{AnswerNumbered, numbered-stopped, reading-numbered}
 
 -- the answer and what is left of the buffers are determined
 pub reads-unique : {plan run held tree : List ℕ} {answer answer′ : Reading} {held-after held-after′ tree-after tree-after′ : List ℕ}
@@ -29,33 +30,34 @@ reads-unique r s =
     (ap (λ (o : Outcome). o .reading) same, r .slots-zero ∙ sym (s .slots-zero), ap (λ (o : Outcome). o .tree) same)
 
 -- what holds on both sides of a test holds of the one taken
-by-test : (P : Outcome → Type 0) (test : Bool) {yes-side no-side : Outcome} → (test ≡ true → P yes-side) → (test ≡ false → P no-side) → P (cond test yes-side no-side)
+by-test : (P : Outcome → Type 0) (test : Bool) {yes-side no-side : Outcome} → (test ≡ true → P yes-side) → (test ≡ false → P no-side)
+    → P (cond test yes-side no-side)
 by-test P true holds fails = holds refl
 by-test P false holds fails = fails refl
 
-module _ (p : Plan) (run : List ℕ) (room : ℕ) where
+module _ (p : Plan) (free : ℕ → Bool) (run : List ℕ) (room : ℕ) where
   -- an outcome is that of an accepted run's records, or a refusal of 8 to 15 with no records and a bare tree
   pub data Told : Outcome → Type 0 where
-    told-accepted : (records : List ℕ) → reading p run ≡ accepted records → Told (acceptedOf (length run) room records)
+    told-accepted : (records : List ℕ) → reading p free run ≡ accepted records → Told (acceptedOf (length run) room records)
     told-refused : (number place kinds : ℕ) → 8 ≤ number → number ≤ 15 → Told (bare room (answered number place 0 kinds))
 
   -- what running a plan comes to
-  pub run-told : Told (outcomeOf p (length run) room (reading p run))
+  pub run-told : Told (outcomeOf p (length run) room (reading p free run))
   unfolding outcomeOf
-  run-told = by-answer (reading p run) refl
+  run-told = by-answer (reading p free run) refl (reading-numbered p free run)
     where
-      by-answer : (answer : Answer) → reading p run ≡ answer → Told (outcomeOf p (length run) room answer)
-      by-answer (accepted records) is = told-accepted records is
-      by-answer (deep-at place) is = told-refused DEEP place 0 (omega arith) (omega arith)
-      by-answer (unknown-at place held) is = told-refused UNKNOWN place (expected p held) (omega arith) (omega arith)
-      by-answer (unexpected-at place held) is = told-refused UNEXPECTED place (expected p held) (omega arith) (omega arith)
-      by-answer (end-at place held) is = told-refused END place (expected p held) (omega arith) (omega arith)
-      by-answer (runaway-at place) is = told-refused RUNAWAY place 0 (omega arith) (omega arith)
+      by-answer : (answer : Answer) → reading p free run ≡ answer → AnswerNumbered answer → Told (outcomeOf p (length run) room answer)
+      by-answer (accepted records) is numbered = told-accepted records is
+      by-answer (stopped number place held) is (numbered-stopped _ low high) =
+          told-refused number place (cond (tells number) (expected p held) 0) (omega arith) (omega arith)
 
 -- a plan that is not judged done is 8 or 9
 judged-bad : (plan : List ℕ) → (planJudged plan .number ≡ DONE → ⊥) → (8 ≤ planJudged plan .number) × (planJudged plan .number ≤ 15)
 unfolding planJudged cellsJudged
-judged-bad plan = by-form (planGood plan (planCount plan) (planKinds plan)) (ltb (firstBad (rowGood plan (planCount plan) (planKinds plan)) (planCount plan) 0) (planCount plan)) _
+judged-bad plan =
+    let count = planCount plan in
+    let kinds = planKinds plan in
+    by-form (planGood plan count kinds) (ltb (firstBad (rowGood plan count kinds) count 0) count) _
   where
     Bad : Judged → Type 0
     Bad j = (j .number ≡ DONE → ⊥) → (8 ≤ j .number) × (j .number ≤ 15)
@@ -66,31 +68,37 @@ judged-bad plan = by-form (planGood plan (planCount plan) (planKinds plan)) (ltb
     by-form false cell place bad = omega arith
 
 -- every reading
-pub read-told : (plan run : List ℕ) (slots room : ℕ) → Told (planOf plan (λ n. ltb n slots)) run room (readOf plan run slots room)
+pub read-told : (plan run : List ℕ) (slots room : ℕ) → Told (planOf plan) (withSlots slots) run room (readOf plan run slots room)
 unfolding readOf runOf
 read-told plan run slots room =
-    by-test Tells (eqb (planJudged plan .number) DONE)
-    (λ good. by-test Tells (leb (length run) 65535)
-    (λ short. by-test Tells (ltb 0 slots) (λ some. run-told (planOf plan (λ n. ltb n slots)) run room) (λ none. told-refused DEEP 0 0 (omega arith) (omega arith)))
+    by-test ToldSo (eqb (planJudged plan .number) DONE)
+    (λ good. by-test ToldSo (leb (length run) 65535)
+    (λ short. by-test ToldSo (ltb 0 slots)
+    (λ some. run-told (planOf plan) (withSlots slots) run room)
+    (λ none. told-refused DEEP 0 0 (omega arith) (omega arith)))
     (λ long. told-refused LONG 0 0 (omega arith) (omega arith)))
-    (λ bad. refused (judged-bad plan (eqb-false _ _ bad)))
+    (λ bad. let (low, high) = judged-bad plan (eqb-false _ _ bad) in
+    told-refused (planJudged plan .number) (planJudged plan .place) 0 low high)
   where
-    Tells : Outcome → Type 0
-    Tells o = Told (planOf plan (λ n. ltb n slots)) run room o
+    ToldSo : Outcome → Type 0
+    ToldSo o = Told (planOf plan) (withSlots slots) run room o
 
-    refused : (8 ≤ planJudged plan .number) × (planJudged plan .number ≤ 15) → Tells (bare room (answered (planJudged plan .number) (planJudged plan .place) 0 0))
-    refused (low, high) = told-refused (planJudged plan .number) (planJudged plan .place) 0 low high
+-- an outcome's number is 0 or one of 8 to 16
+abbrev NumberListed : Outcome → Type 0
+NumberListed o = (o .reading .number ≡ 0) ⊎ ((8 ≤ o .reading .number) × (o .reading .number ≤ 16))
 
 -- what a told outcome says
-module _ {p : Plan} {run : List ℕ} {room : ℕ} where
-  -- its number is 0 or one of 8 to 16
-  pub number-listed : {o : Outcome} → Told p run room o → (o .reading .number ≡ 0) ⊎ ((8 ≤ o .reading .number) × (o .reading .number ≤ 16))
+module _ {p : Plan} {free : ℕ → Bool} {run : List ℕ} {room : ℕ} where
+  -- its number
+  pub number-listed : {o : Outcome} → Told p free run room o
+      → (o .reading .number ≡ 0) ⊎ ((8 ≤ o .reading .number) × (o .reading .number ≤ 16))
   unfolding acceptedOf
-  number-listed (told-accepted records is) = by-test (λ o. (o .reading .number ≡ 0) ⊎ ((8 ≤ o .reading .number) × (o .reading .number ≤ 16))) (leb (length records) room) (λ fits. inl refl) (λ full. inr (omega arith))
+  number-listed (told-accepted records is) =
+      by-test NumberListed (leb (length records) room) (λ fits. inl refl) (λ full. inr (omega arith))
   number-listed (told-refused number place kinds low high) = inr (omega arith)
 
   -- the tree keeps its length
-  pub tree-length : {o : Outcome} → Told p run room o → length (o .tree) ≡ room
+  pub tree-length : {o : Outcome} → Told p free run room o → length (o .tree) ≡ room
   unfolding acceptedOf
   tree-length (told-accepted records is) =
       by-test (λ o. length (o .tree) ≡ room) (leb (length records) room)
@@ -99,21 +107,34 @@ module _ {p : Plan} {run : List ℕ} {room : ℕ} where
   tree-length (told-refused number place kinds low high) = length-replicate room 0
 
   -- every refusal leaves the tree zero
-  pub refused-zero : {o : Outcome} → Told p run room o → (o .reading .number ≡ DONE → ⊥) → o .tree ≡ zeros room
+  pub refused-zero : {o : Outcome} → Told p free run room o → (o .reading .number ≡ DONE → ⊥) → o .tree ≡ zeros room
   unfolding acceptedOf
-  refused-zero (told-accepted records is) = by-test (λ o. (o .reading .number ≡ DONE → ⊥) → o .tree ≡ zeros room) (leb (length records) room) (λ fits refused. absurd (refused refl)) (λ full refused. refl)
+  refused-zero (told-accepted records is) =
+      by-test (λ o. (o .reading .number ≡ DONE → ⊥) → o .tree ≡ zeros room) (leb (length records) room)
+      (λ fits refused. absurd (refused refl)) (λ full refused. refl)
   refused-zero (told-refused number place kinds low high) = λ refused. refl
 
   -- the count of records is the length of the definition's record list, and of nothing else
-  pub records-counted : {o : Outcome} → Told p run room o → (o .reading .number ≡ DONE) ⊎ (o .reading .number ≡ NO-ROOM)
-      → (records : List ℕ) × (reading p run ≡ accepted records) × (o .reading .records ≡ length records)
+  pub records-counted : {o : Outcome} → Told p free run room o → (o .reading .number ≡ DONE) ⊎ (o .reading .number ≡ NO-ROOM)
+      → (records : List ℕ) × (reading p free run ≡ accepted records) × (o .reading .records ≡ length records)
   unfolding acceptedOf
-  records-counted (told-accepted records is) answered-so = (records, is, by-test (λ o. o .reading .records ≡ length records) (leb (length records) room) (λ fits. refl) (λ full. refl))
-  records-counted (told-refused number place kinds low high) answered-so = absurd (⊎-elim (λ done. omega arith) (λ full. omega arith) answered-so)
+  records-counted (told-accepted records is) answered-so =
+      (records, is, by-test (λ o. o .reading .records ≡ length records) (leb (length records) room) (λ fits. refl) (λ full. refl))
+  records-counted (told-refused number place kinds low high) answered-so =
+      absurd (⊎-elim (λ done. omega arith) (λ full. omega arith) answered-so)
 
   -- at most (2N − 2) · events + 1 records
-  pub records-bounded : {o : Outcome} → Told p run room o → o .reading .records ≤ (2 * p .count - 2) * length run + 1
+  pub records-bounded : {o : Outcome} → Told p free run room o → o .reading .records ≤ (2 * p .count - 2) * length run + 1
   unfolding acceptedOf
   records-bounded (told-accepted records is) =
-      by-test (λ o. o .reading .records ≤ (2 * p .count - 2) * length run + 1) (leb (length records) room) (λ fits. records-few p run is) (λ full. records-few p run is)
+      by-test (λ o. o .reading .records ≤ (2 * p .count - 2) * length run + 1) (leb (length records) room)
+      (λ fits. records-few p free run is) (λ full. records-few p free run is)
   records-bounded (told-refused number place kinds low high) = omega arith
+
+  -- the records of an accepted run have room in the tree
+  pub records-fit : {o : Outcome} → Told p free run room o → o .reading .number ≡ DONE → o .reading .records ≤ room
+  unfolding acceptedOf
+  records-fit (told-accepted records is) =
+      by-test (λ o. o .reading .number ≡ DONE → o .reading .records ≤ room) (leb (length records) room)
+      (λ fits done. leb-true (length records) room fits) (λ full done. absurd (omega arith))
+  records-fit (told-refused number place kinds low high) = λ done. absurd (omega arith)

@@ -1,11 +1,12 @@
 pub mod Slots
+pub mod Refusals
 pub mod Simulation
 pub mod Runs
-pub mod Plans
-mod Walks
-mod Takes
+mod Bounds
+mod WalkUnderWay
+mod PartsTakenOff
 mod Rows
-mod Goes
+mod RunUnderWay
 pub mod Settles
 pub mod Fold
 pub mod Answers

@@ -12,35 +12,48 @@ use lib.ListN.{length, getD, set, take, drop, length-set}
 use lib.Seq.{sets, sets-eq, length-sets, take-at, getD-set-same, drop-length}
 use Rattle.words.specs.Words.{zeros}
 use Rattle.book.specs.Form.{DONE}
-use Rattle.plan.specs.Running.{Plan, Answer, reads, reading}
-use Rattle.plan.specs.Form.{planFrom, planOf, planCount, planStart, planJudged}
+use Rattle.running.specs.Running.{Plan, withSlots, Answer, reads, reading, DEEP}
+use Rattle.plan.specs.Form.{planFrom, planOf, planCount, planKinds, planStart, planJudged}
 use Rattle.plan.proofs.Laws.{done}
 use Rattle.reader.specs.declared.Reading.{Reading}
-use Rattle.reader.specs.Numbers.{LONG, DEEP, NO-ROOM, answered}
-use Rattle.reader.specs.Machine.{Ended, Held, stack, readsOf}
-use Rattle.reader.specs.Reads.{outcome, bare, acceptedOf, outcomeOf, runOf, readOf}
+use Rattle.reader.specs.Numbers.{LONG, NO-ROOM, answered}
+use Rattle.reader.specs.Machine.{Ended, SlotsHold, stack, readsOf}
+use Rattle.reader.specs.Reads.{Outcome, outcome, bare, acceptedOf, outcomeOf, runOf, readOf}
 use Rattle.reader.specs.Settled.{settledOf}
-use Rattle.reader.proofs.Runs.{Ends, as-accepted, as-deep-at, as-unknown-at, as-unexpected-at, as-end-at, as-runaway-at, reads-same}
-use Rattle.reader.proofs.Plans.{runnable, plan-bounded}
+use Rattle.reader.proofs.Runs.{SameRun, as-accepted, as-stopped, reads-same}
+use Rattle.reader.proofs.Simulation.{bounded}
 
--- an answer settled, by each test
-module _ (answer : Reading) (tree : List ℕ) where
-  pub settled-refused : (answer .number ≡ DONE → ⊥) → settledOf answer tree ≡ bare (length tree) answer
-  unfolding settledOf
-  settled-refused not = rw (ne-eqb (answer .number) DONE not)
+-- what is left of a tree's room, cleared
+rest-cleared : (tree rest : List ℕ) (n : ℕ) → n ≤ length tree → rest ≡ zeros (length (midOf n (length tree - n) tree))
+    → putMid n (length tree - n) tree rest ≡ take n tree ++ zeros (length tree - n)
+rest-cleared tree rest n within is =
+    ap (λ (l : List ℕ). take n tree ++ l)
+    (ap₂ _++_ (is ∙ ap zeros (mid-len n (length tree) tree (omega arith))) (post-is n (length tree) tree within ∙ drop-length tree)
+    ∙ append-nil (zeros (length tree - n)))
 
-  pub settled-full : answer .number ≡ DONE → length tree < answer .records → settledOf answer tree ≡ bare (length tree) (answered NO-ROOM 0 (answer .records) 0)
+-- an answer settled, by each test, with the tree as it is left
+module _ (answer : Reading) (tree : List ℕ) {left : List ℕ} where
+  pub settled-refused : (answer .number ≡ DONE → ⊥) → left ≡ zeros (length tree) → outcome answer left ≡ settledOf answer tree
   unfolding settledOf
-  settled-full is full = rw (eq-eqb (answer .number) DONE is, lt-leb (answer .records) (length tree) full)
+  settled-refused not cleared = rw (cleared, ne-eqb (answer .number) DONE not) refl
+
+  pub settled-full : answer .number ≡ DONE → length tree < answer .records → left ≡ zeros (length tree)
+      → outcome (answered NO-ROOM 0 (answer .records) 0) left ≡ settledOf answer tree
+  unfolding settledOf
+  settled-full is full cleared = rw (cleared, eq-eqb (answer .number) DONE is, lt-leb (answer .records) (length tree) full) refl
 
   pub settled-fits : answer .number ≡ DONE → answer .records ≤ length tree
-      → settledOf answer tree ≡ outcome answer (take (answer .records) tree ++ zeros (length tree - answer .records))
+      → left ≡ zeros (length (midOf (answer .records) (length tree - answer .records) tree))
+      → outcome answer (putMid (answer .records) (length tree - answer .records) tree left) ≡ settledOf answer tree
   unfolding settledOf
-  settled-fits is fits = rw (eq-eqb (answer .number) DONE is, le-leb (answer .records) (length tree) fits)
+  settled-fits is fits cleared =
+      rw (rest-cleared tree left (answer .records) fits cleared, eq-eqb (answer .number) DONE is)
+      (rw (le-leb (answer .records) (length tree) fits) refl)
 
 -- a reading, by each test
 module _ (plan run : List ℕ) (slots room : ℕ) where
-  pub read-form : (planJudged plan .number ≡ DONE → ⊥) → readOf plan run slots room ≡ bare room (answered (planJudged plan .number) (planJudged plan .place) 0 0)
+  pub read-form : (planJudged plan .number ≡ DONE → ⊥)
+      → readOf plan run slots room ≡ bare room (answered (planJudged plan .number) (planJudged plan .place) 0 0)
   unfolding readOf
   read-form not = rw (ne-eqb (planJudged plan .number) DONE not)
 
@@ -59,41 +72,33 @@ module _ (plan run : List ℕ) (slots room : ℕ) where
       read-runs some = rw (eq-eqb (planJudged plan .number) DONE good, le-leb (length run) 65535 short, lt-ltb 0 slots some)
 
 -- records that fit are the front of the tree that they are stored in
-pub front : (tree records : List ℕ) → length records ≤ length tree → take (length records) (sets tree 0 records) ≡ records
+front : (tree records : List ℕ) → length records ≤ length tree → take (length records) (sets tree 0 records) ≡ records
 front tree records fits =
     let within : 0 + length records ≤ length tree = omega arith in
-    ap (λ (l : List ℕ). take (length records) l) (sets-eq records tree 0 within) ∙ take-at records (drop (0 + length records) tree) (length records) refl
-
--- what is left of a tree's room, cleared
-pub rest-cleared : (tree rest : List ℕ) (n : ℕ) → n ≤ length tree → rest ≡ zeros (length (midOf n (length tree - n) tree))
-    → putMid n (length tree - n) tree rest ≡ take n tree ++ zeros (length tree - n)
-rest-cleared tree rest n within is =
-    ap (λ (l : List ℕ). take n tree ++ l)
-    (ap₂ _++_ (is ∙ ap zeros (mid-len n (length tree) tree (omega arith))) (post-is n (length tree) tree within ∙ drop-length tree) ∙ append-nil (zeros (length tree - n)))
+    ap (take (length records)) (sets-eq records tree 0 within) ∙ take-at records (drop (0 + length records) tree) (length records) refl
 
 module _ (p : Plan) where
-  pub settled-same : {tree : List ℕ} {size : ℕ} {answer : Answer} {e : Ended} → length (e .tree) ≡ length tree → Ends p tree 0 size answer e
+  settled-same : {tree : List ℕ} {size : ℕ} {answer : Answer} {e : Ended} → length (e .tree) ≡ length tree → SameRun p tree 0 size answer e
       → settledOf (e .reading) (e .tree) ≡ outcomeOf p size (length tree) answer
   unfolding settledOf outcomeOf acceptedOf
   settled-same {tree} {size} room (as-accepted records reads stored) =
       rw (reads, zero-add (length records), stored, length-sets tree 0 records) (by-room (leb (length records) (length tree)) refl)
     where
+      done : List ℕ → Outcome
+      done l = outcome (answered DONE size (length records) 0) (l ++ zeros (length tree - length records))
+
+      full : Outcome
+      full = bare (length tree) (answered NO-ROOM 0 (length records) 0)
+
       by-room : (fits : Bool) → leb (length records) (length tree) ≡ fits
-          → cond fits (outcome (answered DONE size (length records) 0) (take (length records) (sets tree 0 records) ++ zeros (length tree - length records)))
-          (bare (length tree) (answered NO-ROOM 0 (length records) 0))
-          ≡ cond fits (outcome (answered DONE size (length records) 0) (records ++ zeros (length tree - length records)))
-          (bare (length tree) (answered NO-ROOM 0 (length records) 0))
+          → cond fits (done (take (length records) (sets tree 0 records))) full ≡ cond fits (done records) full
       by-room true e = rw (front tree records (leb-true _ _ e)) refl
       by-room false e = refl
-  settled-same room (as-deep-at e) = rw (e, room)
-  settled-same room (as-unknown-at e) = rw (e, room)
-  settled-same room (as-unexpected-at e) = rw (e, room)
-  settled-same room (as-end-at e) = rw (e, room)
-  settled-same room (as-runaway-at e) = rw (e, room)
+  settled-same room (as-stopped {number = number} some e) = rw (e, room, ne-eqb number DONE (λ none. omega arith))
 
 -- a run begins with the start node held, in the first slot
 module _ (plan run held tree : List ℕ) (good : planJudged plan .number ≡ DONE) (some : 0 < length held) where
-  pub started : Held (planCount plan) (length held) (set held 0 (planStart plan)) 1
+  pub started : SlotsHold (planCount plan) (length held) (set held 0 (planStart plan)) 1
   started =
       record { long = length-set held 0 (planStart plan); few = some; below = λ i under. only i (omega arith) }
     where
@@ -104,13 +109,15 @@ module _ (plan run held tree : List ℕ) (good : planJudged plan .number ≡ DON
       only i is = rw is first
 
   -- the run's end, settled, is the outcome of the run
-  pub run-same : (e : Ended) → e ≡ readsOf (planOf plan (λ n. ltb n (length held))) 0 run 1 0 (set held 0 (planStart plan)) tree → length (e .tree) ≡ length tree
+  pub run-same : {nodes kinds first : ℕ} → nodes ≡ planCount plan → kinds ≡ planKinds plan → first ≡ planStart plan
+      → (e : Ended) → e ≡ readsOf (planFrom plan nodes kinds) 0 run 1 0 (set held 0 first) tree → length (e .tree) ≡ length tree
       → settledOf (e .reading) (e .tree) ≡ runOf plan run (length held) (length tree)
   unfolding runOf reading stack planFrom
-  run-same e is room = settled-same (planOf plan (λ n. ltb n (length held))) room ends
+  run-same count-is kinds-is start-is e is room = settled-same (planOf plan) room ends
     where
-      ends : Ends (planOf plan (λ n. ltb n (length held))) tree 0 (length run) (reads (planOf plan (λ n. ltb n (length held))) 0 (planStart plan ∷ []) run) e
+      ends : SameRun (planOf plan) tree 0 (length run) (reads (planOf plan) (withSlots (length held)) 0 (planStart plan ∷ []) run) e
       ends =
-          rw is
+          rw (is, count-is, kinds-is, start-is)
           (rw (zero-add, getD-set-same) at
-          (reads-same (planOf plan (λ n. ltb n (length held))) (length held) (plan-bounded (runnable plan good) (length held)) 0 run 1 0 (set held 0 (planStart plan)) tree started))
+          (reads-same (planOf plan) (length held) (bounded (record { good = good; count-is = refl; kinds-is = refl }))
+          0 run 1 0 (set held 0 (planStart plan)) tree started))

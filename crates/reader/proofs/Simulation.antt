@@ -5,108 +5,112 @@ use mathlib.Core.List.{List, [], _∷_}
 use Prim.Native.Nat.{ℕ, zero, suc, _+_, _<_}
 use native.Mathlib.Omega.{arith}
 use borrow.Author.Tests.{ltb-true}
-use lib.Dec.{ltb}
+use lib.Dec.{ltb, eqb}
 use lib.ListN.{length, getD, set}
 use lib.Seq.{sets}
 use Rattle.book.specs.Form.{DONE}
-use Rattle.plan.specs.Running.{Plan, emptied, Step, taken, refused, deep, runaway, noted, visit, takeOff, walk, event}
-use Rattle.reader.specs.Numbers.{DEEP, UNEXPECTED, RUNAWAY}
-use Rattle.reader.specs.Machine.{After, Held, Go, stands, stack, visitOf, offOf, walkOf, takeOf}
+use Rattle.running.specs.Running.{Plan, withSlots, Move, refuse, take-event, go-left, hold-right, skip-left, go-right, moveOf, emptied}
+use Rattle.running.specs.Running.{Step, taken, refused, noted, visit, takeOff, walk, event, DEEP, UNEXPECTED}
+use Rattle.plan.specs.Form.{planFrom, Runnable}
+use Rattle.plan.proofs.Runnable.{left-node, right-node}
+use Rattle.reader.specs.Machine.{After, SlotsHold, Go, stands, stack, visitOf, offOf, walkOf, takeOf}
 use Rattle.reader.proofs.Slots.{stack-length, stack-held, held-more, held-less}
 
 module _ (nodes slots : ℕ) where
   -- an event taken: the parts held are those in the slots, the records are stored from where the tree was written up to
-  pub record Took (tree : List ℕ) (written : ℕ) (held records : List ℕ) (s : After) : Type 0 where
+  pub record SameTaken (tree : List ℕ) (written : ℕ) (held records : List ℕ) (s : After) : Type 0 where
     pub number : s .spot .number ≡ DONE
     pub parts : held ≡ stack (s .held) (s .spot .count)
-    pub safe : Held nodes slots (s .held) (s .spot .count)
+    pub safe : SlotsHold nodes slots (s .held) (s .spot .count)
     pub length-is : s .spot .written ≡ written + length records
     pub tree-is : s .tree ≡ sets tree written records
 
   -- nothing written yet
-  took-none : (tree : List ℕ) (written count : ℕ) (held : List ℕ) → Held nodes slots held count → Took tree written (stack held count) [] (stands DONE count written held tree)
-  took-none tree written count held h = record { number = refl; parts = refl; safe = h; length-is = omega arith; tree-is = refl }
+  same-none : (tree : List ℕ) (written count : ℕ) (held : List ℕ) → SlotsHold nodes slots held count
+      → SameTaken tree written (stack held count) [] (stands DONE count written held tree)
+  same-none tree written count held h = record { number = refl; parts = refl; safe = h; length-is = omega arith; tree-is = refl }
 
   -- a record written first
-  took-noted : {tree : List ℕ} {written : ℕ} {held records : List ℕ} {s : After} (r : ℕ) → Took (set tree written r) (suc written) held records s → Took tree written held (r ∷ records) s
-  took-noted r t =
+  same-noted : {tree : List ℕ} {written : ℕ} {held records : List ℕ} {s : After} (r : ℕ)
+      → SameTaken (set tree written r) (suc written) held records s → SameTaken tree written held (r ∷ records) s
+  same-noted r t =
       record { number = t .number; parts = t .parts; safe = t .safe; length-is = omega (arith, t .length-is); tree-is = t .tree-is }
 
   -- what one event comes to, in both machines
   pub data Stepped (tree : List ℕ) (written : ℕ) : Step → After → Type 0 where
-    as-taken : {held records : List ℕ} {s : After} → Took tree written held records s → Stepped tree written (taken held records) s
-    as-refused : {s : After} → s .spot .number ≡ UNEXPECTED → Stepped tree written refused s
-    as-deep : {s : After} → s .spot .number ≡ DEEP → Stepped tree written deep s
-    as-runaway : {s : After} → s .spot .number ≡ RUNAWAY → Stepped tree written runaway s
+    as-taken : {held records : List ℕ} {s : After} → SameTaken tree written held records s → Stepped tree written (taken held records) s
+    as-refused : {number : ℕ} {s : After} → s .spot .number ≡ number → Stepped tree written (refused number) s
 
-  pub stepped-noted : {tree : List ℕ} {written : ℕ} {step : Step} {s : After} (r : ℕ) → Stepped (set tree written r) (suc written) step s → Stepped tree written (noted r step) s
+  pub stepped-noted : {tree : List ℕ} {written : ℕ} {step : Step} {s : After} (r : ℕ)
+      → Stepped (set tree written r) (suc written) step s → Stepped tree written (noted r step) s
   unfolding noted
-  stepped-noted r (as-taken t) = as-taken (took-noted r t)
+  stepped-noted r (as-taken t) = as-taken (same-noted r t)
   stepped-noted r (as-refused e) = as-refused e
-  stepped-noted r (as-deep e) = as-deep e
-  stepped-noted r (as-runaway e) = as-runaway e
 
--- a plan whose nodes go only to nodes, read with so many slots
-pub record Bounded (p : Plan) (slots : ℕ) : Type 0 where
-  pub frees : (n : ℕ) → p .free n ≡ ltb n slots
+-- a plan whose nodes go only to nodes
+pub record Bounded (p : Plan) : Type 0 where
   pub left-below : (n : ℕ) → p .left n < p .count
   pub right-below : (n : ℕ) → p .right n < p .count
 
-module _ (p : Plan) (slots : ℕ) (b : Bounded p slots) where
+-- a runnable plan is such a plan
+pub bounded : {bytes : List ℕ} {count kinds : ℕ} → Runnable bytes count kinds → Bounded (planFrom bytes count kinds)
+unfolding planFrom
+bounded runs = record { left-below = left-node runs; right-below = right-node runs }
+
+module _ (p : Plan) (slots : ℕ) (b : Bounded p) where
   -- two ways to go on from a node that come to the same
   abbrev Same : (ℕ → List ℕ → Step) → Go → Type 0
   Same go goes =
-      (n count written : ℕ) (held tree : List ℕ) → Held (p .count) slots held count
+      (n count written : ℕ) (held tree : List ℕ) → SlotsHold (p .count) slots held count
       → Stepped (p .count) slots tree written (go n (stack held count)) (goes n count written held tree)
 
   module _ (go : ℕ → List ℕ → Step) (goes : Go) (same : Same go goes) where
-    visit-same : (c l r count written : ℕ) (held tree : List ℕ) → r < p .count → Held (p .count) slots held count
-        → Stepped (p .count) slots tree written (visit c go (p .free) l r (stack held count)) (visitOf c goes l r count written held tree)
+    visit-same : (m : Move) (l r count written : ℕ) (held tree : List ℕ) → r < p .count → SlotsHold (p .count) slots held count
+        → Stepped (p .count) slots tree written (visit m go (withSlots slots) l r (stack held count))
+        (visitOf m goes l r count written held tree)
     unfolding visit visitOf
-    visit-same zero l r count written held tree good h = as-refused refl
-    visit-same (suc zero) l r count written held tree good h =
-        as-taken (took-none (p .count) slots tree written count held h)
-    visit-same (suc (suc zero)) l r count written held tree good h = same l count written held tree h
-    visit-same (suc (suc (suc zero))) l r count written held tree good h =
-        rw (b .frees (length (stack held count)), stack-length held count, h .long) (by-slot (ltb count slots) refl)
+    visit-same refuse l r count written held tree good h = as-refused refl
+    visit-same take-event l r count written held tree good h = as-taken (same-none (p .count) slots tree written count held h)
+    visit-same go-left l r count written held tree good h = same l count written held tree h
+    visit-same hold-right l r count written held tree good h = rw (stack-length held count, h .long) (by-slot (ltb count slots) refl)
       where
         by-slot : (free : Bool) → ltb count slots ≡ free
-            → Stepped (p .count) slots tree written (cond free (go l (r ∷ stack held count)) deep)
+            → Stepped (p .count) slots tree written (cond free (go l (r ∷ stack held count)) (refused DEEP))
             (cond free (goes l (suc count) written (set held count r) tree) (stands DEEP count written held tree))
         by-slot true e =
             let inside : count < slots = ltb-true count slots e in
             let free : count < length held = omega (arith, h .long) in
             rw (← stack-held held count r free) (same l (suc count) written (set held count r) tree (held-more h r good inside))
-        by-slot false e = as-deep refl
-    visit-same (suc (suc (suc (suc zero)))) l r count written held tree good h =
+        by-slot false e = as-refused refl
+    visit-same skip-left l r count written held tree good h =
         stepped-noted (p .count) slots (emptied l) (same r count (suc written) held (set tree written (emptied l)) h)
-    visit-same (suc (suc (suc (suc (suc zero))))) l r count written held tree good h = same r count written held tree h
-    visit-same (suc (suc (suc (suc (suc (suc c)))))) l r count written held tree good h = as-refused refl
+    visit-same go-right l r count written held tree good h = same r count written held tree h
 
   module _ (k : ℕ) where
-    pub walk-same : (left : ℕ) → Same (walk p k left) (walkOf p k left)
+    pub walk-same : (left : ℕ) → Same (walk p (withSlots slots) k left) (walkOf p k left)
     unfolding walk walkOf
-    walk-same zero n count written held tree h = as-runaway refl
+    walk-same zero n count written held tree h = as-refused refl
     walk-same (suc left) n count written held tree h =
         stepped-noted (p .count) slots n
-        (visit-same (walk p k left) (walkOf p k left) (walk-same left) (p .cell n k) (p .left n) (p .right n) count (suc written) held (set tree written n) (b .right-below n) h)
+        (visit-same (walk p (withSlots slots) k left) (walkOf p k left) (walk-same left)
+        (moveOf (p .cell n k)) (p .left n) (p .right n) count (suc written) held (set tree written n) (b .right-below n) h)
 
-    off-same : (c : ℕ) (null : Bool) {tree : List ℕ} {written : ℕ} {walked passed : Step} {walks passes refuses : After}
+    off-same : (none null : Bool) {tree : List ℕ} {written : ℕ} {walked passed : Step} {walks passes refuses : After}
         → Stepped (p .count) slots tree written walked walks → Stepped (p .count) slots tree written passed passes
-        → Stepped (p .count) slots tree written refused refuses
-        → Stepped (p .count) slots tree written (takeOff c null walked passed) (offOf c null walks passes refuses)
-    unfolding takeOff offOf
-    off-same zero true walked passed refuses = passed
-    off-same zero false walked passed refuses = refuses
-    off-same (suc c) null walked passed refuses = walked
+        → Stepped (p .count) slots tree written (refused UNEXPECTED) refuses
+        → Stepped (p .count) slots tree written (cond none (cond null passed (refused UNEXPECTED)) walked)
+        (cond none (cond null passes refuses) walks)
+    off-same true true walked passed refuses = passed
+    off-same true false walked passed refuses = refuses
+    off-same false null walked passed refuses = walked
 
     -- an event of a known kind
-    pub take-same : (count written : ℕ) (held tree : List ℕ) → Held (p .count) slots held count
-        → Stepped (p .count) slots tree written (event p k (stack held count)) (takeOf p k count written held tree)
-    unfolding event takeOf stack
+    pub take-same : (count written : ℕ) (held tree : List ℕ) → SlotsHold (p .count) slots held count
+        → Stepped (p .count) slots tree written (event p (withSlots slots) k (stack held count)) (takeOf p k count written held tree)
+    unfolding event takeOf takeOff offOf stack
     take-same zero written held tree h = as-refused refl
     take-same (suc count) written held tree h =
         let n = getD held count 0 in
-        off-same (p .cell n k) (p .null n) (walk-same (p .count) n count written held tree (held-less h))
+        off-same (eqb (p .cell n k) 0) (p .null n) (walk-same (p .count) n count written held tree (held-less h))
         (stepped-noted (p .count) slots (emptied n) (take-same count (suc written) held (set tree written (emptied n)) (held-less h)))
         (as-refused refl)

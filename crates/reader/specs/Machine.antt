@@ -1,16 +1,18 @@
--- The machine on slots and a tree, by the same steps as the code. Storing past the end of a list changes nothing, so the tree's room
--- appears nowhere.
+-- The machine on slots and a tree, by the same steps as the code. Storing past the end of a list changes nothing, so
+-- the tree's room appears nowhere.
 use Prim.Native.Nat.{ℕ, zero, suc, _≤_, _<_}
 use mathlib.Core.Path.{_≡_}
-use mathlib.Core.Bool.{Bool, true, false, cond}
+use mathlib.Core.Bool.{Bool, cond}
 use mathlib.Core.List.{List, [], _∷_}
 use lib.Dec.{ltb, eqb}
 use lib.ListN.{length, getD, set}
 use Rattle.book.specs.Form.{DONE}
-use Rattle.plan.specs.Running.{Plan, emptied, expected, rowFirst}
+use Rattle.running.specs.Running.{Plan, Move, refuse, take-event, go-left, hold-right, skip-left, go-right, moveOf}
+use Rattle.running.specs.Running.{emptied, expected, rowFirst, DEEP, UNKNOWN, UNEXPECTED, END, RUNAWAY}
 use Rattle.reader.specs.declared.Spot.{Spot}
 use Rattle.reader.specs.declared.Reading.{Reading}
-use Rattle.reader.specs.Numbers.{DEEP, UNKNOWN, UNEXPECTED, END, RUNAWAY, answered}
+use Rattle.reader.specs.declared.Taken.{Taken}
+use Rattle.reader.specs.Numbers.{answered, refusal}
 
 -- how the machine stands, with its slots and its tree
 pub record After : Type 0 where
@@ -35,7 +37,7 @@ lastOf held zero = 0
 lastOf held (suc count) = getD held count 0
 
 -- parts held in the first so many of the slots, each a node below a count of nodes
-pub record Held (nodes slots : ℕ) (held : List ℕ) (count : ℕ) : Type 0 where
+pub record SlotsHold (nodes slots : ℕ) (held : List ℕ) (count : ℕ) : Type 0 where
   pub long : length held ≡ slots
   pub few : count ≤ slots
   pub below : (i : ℕ) → i < count → getD held i 0 < nodes
@@ -44,31 +46,28 @@ pub record Held (nodes slots : ℕ) (held : List ℕ) (count : ℕ) : Type 0 whe
 abbrev pub Go : Type 0
 Go = ℕ → ℕ → ℕ → List ℕ → List ℕ → After
 
--- what a cell says at a node with this left and right: 1 take the event, 2 go left, 3 hold right and go left, 4 write an empty record for
--- left and go right, 5 go right; any other refuses the event
-unfoldable pub visitOf : ℕ → Go → ℕ → ℕ → ℕ → ℕ → List ℕ → List ℕ → After
-visitOf zero go l r count written held tree = stands UNEXPECTED count written held tree
-visitOf (suc zero) go l r count written held tree = stands DONE count written held tree
-visitOf (suc (suc zero)) go l r count written held tree = go l count written held tree
-visitOf (suc (suc (suc zero))) go l r count written held tree =
-    cond (ltb count (length held)) (go l (suc count) written (set held count r) tree) (stands DEEP count written held tree)
-visitOf (suc (suc (suc (suc zero)))) go l r count written held tree =
-    go r count (suc written) held (set tree written (emptied l))
-visitOf (suc (suc (suc (suc (suc zero))))) go l r count written held tree = go r count written held tree
-visitOf (suc (suc (suc (suc (suc (suc c)))))) go l r count written held tree = stands UNEXPECTED count written held tree
+-- what a move does at a node with this left and right
+unfoldable pub visitOf : Move → Go → ℕ → ℕ → ℕ → ℕ → List ℕ → List ℕ → After
+visitOf refuse go l r count written held tree = stands UNEXPECTED count written held tree
+visitOf take-event go l r count written held tree = stands DONE count written held tree
+visitOf go-left go l r count written held tree = go l count written held tree
+visitOf hold-right go l r count written held tree =
+    cond (ltb count (length held)) (go l (suc count) written (set held count r) tree)
+    (stands DEEP count written held tree)
+visitOf skip-left go l r count written held tree = go r count (suc written) held (set tree written (emptied l))
+visitOf go-right go l r count written held tree = go r count written held tree
 
--- a part taken off, by its cell and whether it is nullable: its walk where the cell is not 0, else it is passed or the event refused
+-- a part taken off: its walk where its cell is not 0, else it is passed where it is nullable, or the event is refused
 unfoldable pub offOf : ℕ → Bool → After → After → After → After
-offOf zero true walked passed refused = passed
-offOf zero false walked passed refused = refused
-offOf (suc c) null walked passed refused = walked
+offOf cell null walked passed refused = cond (eqb cell 0) (cond null passed refused) walked
 
 module _ (p : Plan) (k : ℕ) where
   -- the walk from a node, with so many visits left
   unfoldable pub walkOf : ℕ → Go
   walkOf zero n count written held tree = stands RUNAWAY count written held tree
   walkOf (suc left) n count written held tree =
-      visitOf (p .cell n k) (walkOf left) (p .left n) (p .right n) count (suc written) held (set tree written n)
+      visitOf (moveOf (p .cell n k)) (walkOf left) (p .left n) (p .right n)
+      count (suc written) held (set tree written n)
 
   -- taking parts off until one walks
   unfoldable pub takeOf : ℕ → ℕ → List ℕ → List ℕ → After
@@ -84,13 +83,21 @@ module _ (p : Plan) (k : ℕ) where
   eventOf count written held tree =
       cond (ltb k (p .kinds)) (takeOf count written held tree) (stands UNKNOWN count written held tree)
 
--- the kinds that a refusal tells: those expected, but for DEEP and RUNAWAY none
-abbrev pub told : ℕ → ℕ → ℕ
-told number kinds = cond (eqb number DEEP) 0 (cond (eqb number RUNAWAY) 0 kinds)
+-- how an event came out, with the slots and the tree
+pub record AfterEvent : Type 0 where
+  pub taken : Taken
+  pub held : List ℕ
+  pub tree : List ℕ
 
--- a refusal at a place, where these kinds were expected
-abbrev pub refusal : ℕ → ℕ → ℕ → Reading
-refusal number place kinds = answered number place 0 (told number kinds)
+abbrev pub afterEvent : Taken → List ℕ → List ℕ → AfterEvent
+afterEvent taken held tree = record { taken = taken; held = held; tree = tree }
+
+-- how the machine stands, with its answer at a place where these kinds were expected
+abbrev pub placed : After → ℕ → ℕ → AfterEvent
+placed s at kinds =
+    afterEvent
+    (record { reading = refusal (s .spot .number) at kinds; count = s .spot .count; written = s .spot .written })
+    (s .held) (s .tree)
 
 -- what the run's steps come to: the answer, the slots and the tree
 pub record Ended : Type 0 where
@@ -101,17 +108,22 @@ pub record Ended : Type 0 where
 abbrev pub ended : Reading → List ℕ → List ℕ → Ended
 ended reading held tree = record { reading = reading; held = held; tree = tree }
 
--- at a place, where these kinds were expected: on from where the machine stands, or the refusal
-unfoldable pub onOf : After → (ℕ → ℕ → List ℕ → List ℕ → Ended) → ℕ → ℕ → Ended
-onOf s rest at kinds =
-    cond (eqb (s .spot .number) DONE) (rest (s .spot .count) (s .spot .written) (s .held) (s .tree))
-    (ended (refusal (s .spot .number) at kinds) (s .held) (s .tree))
+-- on from where the machine stands, or the refusal
+unfoldable pub onOf : AfterEvent → (ℕ → ℕ → List ℕ → List ℕ → Ended) → Ended
+onOf s rest =
+    cond (eqb (s .taken .reading .number) DONE) (rest (s .taken .count) (s .taken .written) (s .held) (s .tree))
+    (ended (s .taken .reading) (s .held) (s .tree))
 
 module _ (p : Plan) where
   -- the kinds expected where so many parts are held, this one last
   unfoldable pub expectedOf : ℕ → ℕ → ℕ
   expectedOf zero last = 0
   expectedOf (suc count) last = rowFirst p last (p .kinds)
+
+  -- one event at a place
+  unfoldable pub takenOf : ℕ → ℕ → ℕ → ℕ → List ℕ → List ℕ → AfterEvent
+  takenOf k at count written held tree =
+      placed (eventOf p k count written held tree) at (expected p (stack held count))
 
   -- the end: all held parts are taken off in turn
   unfoldable pub finishOf : ℕ → ℕ → List ℕ → List ℕ → After
@@ -124,12 +136,11 @@ module _ (p : Plan) where
   -- the end of a run, at a place
   unfoldable pub closeOf : ℕ → ℕ → ℕ → List ℕ → List ℕ → Ended
   closeOf at count written held tree =
-      onOf (finishOf count written held tree) (λ c w h t. ended (answered DONE at w 0) h t) at
-      (expected p (stack held count))
+      onOf (placed (finishOf count written held tree) at (expected p (stack held count)))
+      (λ c w h t. ended (answered DONE at w 0) h t)
 
   -- a run from a place on, with so many parts held and records written
   unfoldable pub readsOf : ℕ → List ℕ → ℕ → ℕ → List ℕ → List ℕ → Ended
   readsOf at [] count written held tree = closeOf at count written held tree
   readsOf at (k ∷ run) count written held tree =
-      onOf (eventOf p k count written held tree) (λ c w h t. readsOf (suc at) run c w h t) at
-      (expected p (stack held count))
+      onOf (takenOf k at count written held tree) (λ c w h t. readsOf (suc at) run c w h t)

@@ -7,10 +7,10 @@ use lib.Dec.{ltb, leb, eqb}
 use lib.ListN.{length}
 use Rattle.words.specs.Words.{zeros}
 use Rattle.book.specs.Form.{DONE}
-use Rattle.plan.specs.Running.{Plan, Answer, accepted, deep-at, unknown-at, unexpected-at, end-at, runaway-at, expected, reading}
+use Rattle.running.specs.Running.{Plan, withSlots, Answer, accepted, stopped, expected, reading, DEEP}
 use Rattle.plan.specs.Form.{planOf, planJudged}
 use Rattle.reader.specs.declared.Reading.{Reading}
-use Rattle.reader.specs.Numbers.{LONG, DEEP, UNKNOWN, UNEXPECTED, END, RUNAWAY, NO-ROOM, answered}
+use Rattle.reader.specs.Numbers.{LONG, NO-ROOM, answered, refusal}
 
 -- a reading's answer, and the tree buffer after it
 pub record Outcome : Type 0 where
@@ -34,17 +34,12 @@ acceptedOf size room records =
 -- what running a plan over a run of a length comes to, as an answer and a tree of so much room
 unfoldable pub outcomeOf : Plan → ℕ → ℕ → Answer → Outcome
 outcomeOf p size room (accepted records) = acceptedOf size room records
-outcomeOf p size room (deep-at place) = bare room (answered DEEP place 0 0)
-outcomeOf p size room (unknown-at place held) = bare room (answered UNKNOWN place 0 (expected p held))
-outcomeOf p size room (unexpected-at place held) = bare room (answered UNEXPECTED place 0 (expected p held))
-outcomeOf p size room (end-at place held) = bare room (answered END place 0 (expected p held))
-outcomeOf p size room (runaway-at place) = bare room (answered RUNAWAY place 0 0)
+outcomeOf p size room (stopped number place held) = bare room (refusal number place (expected p held))
 
 -- the run by the plan that bytes are, with so many slots
 unfoldable pub runOf : List ℕ → List ℕ → ℕ → ℕ → Outcome
 runOf plan run slots room =
-    let p = planOf plan (λ n. ltb n slots) in
-    outcomeOf p (length run) room (reading p run)
+    outcomeOf (planOf plan) (length run) room (reading (planOf plan) (withSlots slots) run)
 
 -- a reading: 8 or 9 by the plan's form, 10 for more than 65,535 events, 11 for no slot, then the run
 unfoldable pub readOf : List ℕ → List ℕ → ℕ → ℕ → Outcome

@@ -2,21 +2,25 @@
 ghost use mathlib.Core.Path.{_≡_};
 ghost use Prim.Native.Nat.{_+_, _*_, _-_, _≤_, _<_};
 ghost use lib.ListN.{length, set};
-ghost use Rattle.book.specs.Decode.{leftAt, rightAt};
-ghost use Rattle.plan.specs.Running.{rowFirst};
-ghost use Rattle.plan.specs.Form.{planNodesAt, cellAt, planJudged};
-ghost use Rattle.reader.specs.Machine.{after, ended, lastOf, expectedOf, walkOf, eventOf, finishOf, closeOf, readsOf, told, refusal};
-ghost use Rattle.reader.specs.Numbers.{answered};
-ghost use Rattle.reader.specs.Ready.{onSlots, Runnable, Ready};
+ghost use mathlib.Core.Bool.{cond};
+ghost use Rattle.running.specs.Running.{rowFirst, tells};
+ghost use Rattle.plan.specs.Form.{planFrom, planJudged, Runnable};
+ghost use Rattle.reader.specs.Machine.{after, afterEvent, ended, lastOf, expectedOf};
+ghost use Rattle.reader.specs.Machine.{walkOf, eventOf, takenOf, finishOf, closeOf, readsOf};
+ghost use Rattle.reader.specs.Numbers.{answered, refusal};
+ghost use Rattle.reader.specs.Ready.{Ready};
 ghost use Rattle.reader.specs.Reads.{Reads, outcome, bare, runOf, readOf};
 ghost use Rattle.reader.specs.Settled.{settledOf};
 use book::DONE;
 use kinds::single;
-use plan::NODES_AT;
-use plan::SETTINGS_AT;
+use plan::cell_at;
 use plan::judge;
+use plan::left_at;
+use plan::plan_count;
+use plan::plan_kinds;
+use plan::plan_start;
+use plan::right_at;
 use words::clear_records;
-use words::u16_at;
 use words::wide;
 
 // The answers' numbers.
@@ -40,7 +44,7 @@ pub const MOST_EVENTS: usize = 65535;
 // What is added to a node's number in an empty record.
 pub const EMPTY: usize = 32768;
 
-// How the machine stands: the answer's number, 0 where it may go on; how many parts are held; how many records are written.
+// How the machine stands: the answer's number, 0 where it may go on; the parts held; the records written.
 pub struct Spot {
     pub number: u32,
     pub count: usize,
@@ -56,28 +60,11 @@ pub struct Reading {
     pub expected: u64,
 }
 
-// The cell of a node's row in a column.
-fn cell_at(plan: &[u8], nodes: usize, kinds: usize, node: usize, column: usize) -> usize
-    requires { ⌜ (Runnable (now plan) nodes kinds) × (node < nodes) × (column ≤ kinds) ⌝ }
-    ensures { λ r. ⌜ (r ≡ cellAt (now (plan .entry)) nodes kinds node column) × (r < 256) ⌝ }
-{
-    wide(plan[NODES_AT + 6 * nodes + node * (kinds + 1) + column])
-}
-
-// The left of a node.
-fn left_at(plan: &[u8], node: usize) -> usize
-    requires { ⌜ (30 + 6 * node ≤ length (now plan)) × (node < 512) ⌝ }
-    ensures { λ r. ⌜ r ≡ leftAt (now (plan .entry)) planNodesAt node ⌝ }
-{
-    u16_at(plan, NODES_AT + 6 * node + 2)
-}
-
-// The right of a node.
-fn right_at(plan: &[u8], node: usize) -> usize
-    requires { ⌜ (30 + 6 * node ≤ length (now plan)) × (node < 512) ⌝ }
-    ensures { λ r. ⌜ r ≡ rightAt (now (plan .entry)) planNodesAt node ⌝ }
-{
-    u16_at(plan, NODES_AT + 6 * node + 4)
+// How an event came out: the answer, with number 0 where it was taken; the parts then held; the records then written.
+pub struct Taken {
+    pub reading: Reading,
+    pub count: usize,
+    pub written: usize,
 }
 
 // Writes a record, where the tree has room for it.
@@ -103,7 +90,9 @@ fn walk(
     tree: &mut [u16],
 ) -> Spot
     requires { ⌜ (Ready (now plan) nodes kinds count written (now held)) × (kind < kinds) × (from < nodes) ⌝ }
-    ensures { λ r. ⌜ after r (now (held .exit)) (now (tree .exit)) ≡ walkOf (onSlots (now (plan .entry)) nodes kinds (length (now (held .entry)))) kind nodes from count written (now (held .entry)) (now (tree .entry)) ⌝ }
+    ensures { λ r. ⌜ after r (now (held .exit)) (now (tree .exit))
+        ≡ walkOf (planFrom (now (plan .entry)) nodes kinds) kind nodes from count written
+        (now (held .entry)) (now (tree .entry)) ⌝ }
 {
     let mut visits = 0;
     let mut node = from;
@@ -161,7 +150,7 @@ fn walk(
 }
 
 // One event: the part held last is taken off, until one walks or the event is refused.
-pub fn event(
+fn event(
     plan: &[u8],
     nodes: usize,
     kinds: usize,
@@ -172,7 +161,9 @@ pub fn event(
     tree: &mut [u16],
 ) -> Spot
     requires { ⌜ Ready (now plan) nodes kinds count written (now held) ⌝ }
-    ensures { λ r. ⌜ after r (now (held .exit)) (now (tree .exit)) ≡ eventOf (onSlots (now (plan .entry)) nodes kinds (length (now (held .entry)))) kind count written (now (held .entry)) (now (tree .entry)) ⌝ }
+    ensures { λ r. ⌜ after r (now (held .exit)) (now (tree .exit))
+        ≡ eventOf (planFrom (now (plan .entry)) nodes kinds) kind count written
+        (now (held .entry)) (now (tree .entry)) ⌝ }
 {
     if kinds <= kind {
         return Spot {
@@ -217,7 +208,8 @@ fn finish(
     tree: &mut [u16],
 ) -> Spot
     requires { ⌜ Ready (now plan) nodes kinds count written (now held) ⌝ }
-    ensures { λ r. ⌜ after r (now (held .entry)) (now (tree .exit)) ≡ finishOf (onSlots (now (plan .entry)) nodes kinds (length (now (held .entry)))) count written (now (held .entry)) (now (tree .entry)) ⌝ }
+    ensures { λ r. ⌜ after r (now (held .entry)) (now (tree .exit))
+        ≡ finishOf (planFrom (now (plan .entry)) nodes kinds) count written (now (held .entry)) (now (tree .entry)) ⌝ }
 {
     let mut parts = count;
     let mut records = written;
@@ -244,7 +236,7 @@ fn finish(
 // The kinds of a node's row whose cells are not 0.
 fn row_first(plan: &[u8], nodes: usize, kinds: usize, node: usize) -> u64
     requires { ⌜ (Runnable (now plan) nodes kinds) × (node < nodes) ⌝ }
-    ensures { λ r. ⌜ r ≡ rowFirst (onSlots (now (plan .entry)) nodes kinds 0) node kinds ⌝ }
+    ensures { λ r. ⌜ r ≡ rowFirst (planFrom (now (plan .entry)) nodes kinds) node kinds ⌝ }
 {
     let mut first = 0;
     let mut kind = 0;
@@ -278,12 +270,12 @@ fn expected_at(
     last: usize,
 ) -> u64
     requires { ⌜ (Runnable (now plan) nodes kinds) × (last < nodes) ⌝ }
-    ensures { λ r. ⌜ r ≡ told number (expectedOf (onSlots (now (plan .entry)) nodes kinds 0) count last) ⌝ }
+    ensures { λ r. ⌜ r ≡ cond (tells number) (expectedOf (planFrom (now (plan .entry)) nodes kinds) count last) 0 ⌝ }
 {
-    if number == DEEP {
+    if number < UNKNOWN {
         return 0;
     }
-    if number == RUNAWAY {
+    if END < number {
         return 0;
     }
     if count == 0 {
@@ -292,7 +284,7 @@ fn expected_at(
     row_first(plan, nodes, kinds, last)
 }
 
-// A refusal at a place, where so many parts were held, this one last.
+// The answer at a place, a refusal unless the number is 0, where so many parts were held, this one last.
 fn refuse(
     plan: &[u8],
     nodes: usize,
@@ -303,13 +295,39 @@ fn refuse(
     last: usize,
 ) -> Reading
     requires { ⌜ (Runnable (now plan) nodes kinds) × (last < nodes) × (at < 65536) ⌝ }
-    ensures { λ r. ⌜ r ≡ refusal number at (expectedOf (onSlots (now (plan .entry)) nodes kinds 0) count last) ⌝ }
+    ensures { λ r. ⌜ r ≡ refusal number at (expectedOf (planFrom (now (plan .entry)) nodes kinds) count last) ⌝ }
 {
     Reading {
         number: number,
         place: at as u32,
         records: 0,
         expected: expected_at(plan, nodes, kinds, number, count, last),
+    }
+}
+
+// One event at a place of a run: taken, or refused with its answer.
+pub fn take_event(
+    plan: &[u8],
+    nodes: usize,
+    kinds: usize,
+    kind: usize,
+    at: usize,
+    count: usize,
+    written: usize,
+    held: &mut [u16],
+    tree: &mut [u16],
+) -> Taken
+    requires { ⌜ (Ready (now plan) nodes kinds count written (now held)) × (at < 65536) ⌝ }
+    ensures { λ r. ⌜ afterEvent r (now (held .exit)) (now (tree .exit))
+        ≡ takenOf (planFrom (now (plan .entry)) nodes kinds) kind at count written
+        (now (held .entry)) (now (tree .entry)) ⌝ }
+{
+    let last = last_part(held, count);
+    let spot = event(plan, nodes, kinds, kind, count, written, held, tree);
+    Taken {
+        reading: refuse(plan, nodes, kinds, spot.number, at, count, last),
+        count: spot.count,
+        written: spot.written,
     }
 }
 
@@ -325,7 +343,9 @@ fn close(
     tree: &mut [u16],
 ) -> Reading
     requires { ⌜ (Ready (now plan) nodes kinds count written (now held)) × (at < 65536) ⌝ }
-    ensures { λ r. ⌜ ended r (now (held .entry)) (now (tree .exit)) ≡ closeOf (onSlots (now (plan .entry)) nodes kinds (length (now (held .entry)))) at count written (now (held .entry)) (now (tree .entry)) ⌝ }
+    ensures { λ r. ⌜ ended r (now (held .entry)) (now (tree .exit))
+        ≡ closeOf (planFrom (now (plan .entry)) nodes kinds) at count written
+        (now (held .entry)) (now (tree .entry)) ⌝ }
 {
     let last = last_part(held, count);
     let spot = finish(plan, nodes, kinds, count, written, held, tree);
@@ -350,28 +370,30 @@ fn events(
     tree: &mut [u16],
 ) -> Reading
     requires { ⌜ (Ready (now plan) nodes kinds 1 0 (now held)) × (length (now run) ≤ 65535) ⌝ }
-    ensures { λ r. ⌜ ended r (now (held .exit)) (now (tree .exit)) ≡ readsOf (onSlots (now (plan .entry)) nodes kinds (length (now (held .entry)))) 0 (now (run .entry)) 1 0 (now (held .entry)) (now (tree .entry)) ⌝ }
+    ensures { λ r. ⌜ ended r (now (held .exit)) (now (tree .exit))
+        ≡ readsOf (planFrom (now (plan .entry)) nodes kinds) 0 (now (run .entry)) 1 0
+        (now (held .entry)) (now (tree .entry)) ⌝ }
 {
     let mut at = 0;
     let mut count = 1;
     let mut written = 0;
     while at < run.len() {
-        let last = last_part(held, count);
-        let spot = event(
+        let taken = take_event(
             plan,
             nodes,
             kinds,
             wide(run[at]),
+            at,
             count,
             written,
             held,
             tree,
         );
-        if spot.number != DONE {
-            return refuse(plan, nodes, kinds, spot.number, at, count, last);
+        if taken.reading.number != DONE {
+            return taken.reading;
         }
-        count = spot.count;
-        written = spot.written;
+        count = taken.count;
+        written = taken.written;
         at += 1;
     }
     close(plan, nodes, kinds, at, count, written, held, tree)
@@ -390,7 +412,7 @@ fn refuse_all(number: u32, place: u32, tree: &mut [u16]) -> Reading
     }
 }
 
-// The answer settled: the tree's rest is cleared, or all of it at a refusal and where the records are more than its room.
+// The answer settled: the tree's rest is cleared, or all of it at a refusal or where it has no room for the records.
 fn settle(answer: Reading, tree: &mut [u16]) -> Reading
     ensures { λ r. ⌜ outcome r (now (tree .exit)) ≡ settledOf answer (now (tree .entry)) ⌝ }
 {
@@ -415,17 +437,20 @@ fn settle(answer: Reading, tree: &mut [u16]) -> Reading
 // The run by a plan that is judged done, with a slot at least.
 fn run_plan(plan: &[u8], run: &[u8], held: &mut [u16], tree: &mut [u16]) -> Reading
     requires { ⌜ (planJudged (now plan) .number ≡ 0) × (length (now run) ≤ 65535) × (0 < length (now held)) ⌝ }
-    ensures { λ r. ⌜ outcome r (now (tree .exit)) ≡ runOf (now (plan .entry)) (now (run .entry)) (length (now (held .entry))) (length (now (tree .entry))) ⌝ }
+    ensures { λ r. ⌜ outcome r (now (tree .exit))
+        ≡ runOf (now (plan .entry)) (now (run .entry)) (length (now (held .entry))) (length (now (tree .entry))) ⌝ }
 {
-    let nodes = u16_at(plan, 12) / 6;
-    let kinds = u16_at(plan, SETTINGS_AT);
-    held[0] = u16_at(plan, SETTINGS_AT + 2) as u16;
-    settle(events(plan, nodes, kinds, run, held, tree), tree)
+    held[0] = plan_start(plan) as u16;
+    settle(
+        events(plan, plan_count(plan), plan_kinds(plan), run, held, tree),
+        tree,
+    )
 }
 
 // The answer, by each test in turn, with the records in the tree.
 fn answer(plan: &[u8], run: &[u8], held: &mut [u16], tree: &mut [u16]) -> Reading
-    ensures { λ r. ⌜ outcome r (now (tree .exit)) ≡ readOf (now (plan .entry)) (now (run .entry)) (length (now (held .entry))) (length (now (tree .entry))) ⌝ }
+    ensures { λ r. ⌜ outcome r (now (tree .exit))
+        ≡ readOf (now (plan .entry)) (now (run .entry)) (length (now (held .entry))) (length (now (tree .entry))) ⌝ }
 {
     let form = judge(plan);
     if form.number != DONE {
@@ -442,7 +467,8 @@ fn answer(plan: &[u8], run: &[u8], held: &mut [u16], tree: &mut [u16]) -> Readin
 
 // Reads a run by a plan: the answer, with the records in the tree; the slots are zero after every call.
 pub fn read(plan: &[u8], run: &[u8], held: &mut [u16], tree: &mut [u16]) -> Reading
-    ensures { λ r. ⌜ Reads (now (plan .entry)) (now (run .entry)) (now (held .entry)) (now (tree .entry)) r (now (held .exit)) (now (tree .exit)) ⌝ }
+    ensures { λ r. ⌜ Reads (now (plan .entry)) (now (run .entry)) (now (held .entry)) (now (tree .entry))
+        r (now (held .exit)) (now (tree .exit)) ⌝ }
 {
     let reading = answer(plan, run, held, tree);
     clear_records(held);

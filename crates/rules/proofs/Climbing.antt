@@ -10,9 +10,9 @@ use Rattle.book.specs.Book.{Proper, fail-is, empty-is, token-is, either-is, the
 use Rattle.book.specs.declared.Node.{Node}
 use Rattle.book.specs.declared.Node.the-variants.{Fail, Empty, Token, Either, Then, Tagged, Ref}
 use Rattle.rules.specs.declared.NodeFacts.{NodeFacts}
-use Rattle.rules.specs.Facts.{Facts}
+use Rattle.rules.specs.Facts.{factsAt, Facts}
 use Rattle.rules.specs.Growth.{Sound, Visited, Turned}
-use Rattle.rules.specs.Step.{leftFrom, factsAt, eitherFacts, thenFacts, ruledOf, isRef, FactAt, Given, Holds, SameBelow, PutAt, RuleClosed, RefClosed, Climbed}
+use Rattle.rules.specs.Step.{leftFrom, eitherFacts, thenFacts, ruledOf, isRef, FactAt, Given, Holds, SameBelow, PutAt, RuleClosed, RefClosed, Climbed}
 use Rattle.rules.proofs.Growing.{grown-none, grown-then}
 use Rattle.rules.proofs.Steps.{rules-put}
 use Rattle.rules.proofs.Complete.{facts-are}

@@ -11,9 +11,9 @@ use Rattle.kinds.proofs.Laws.{all, has-single, has-join, has-shared}
 use Rattle.book.specs.Book.{Proper}
 use Rattle.book.specs.declared.Node.{Node}
 use Rattle.grammar.specs.Rules.{Productive, Nullable, First, Snf, p-empty, p-token, p-left, p-right, p-then, p-tagged, p-ref, n-empty, n-left, n-right, n-then, n-tagged, n-ref, f-token, f-left, f-right, f-hold, f-skip, f-tagged, f-ref, s-left, s-right, s-first-left, s-first-right, s-then-left, s-then-right, s-tagged, s-ref}
-use Rattle.rules.specs.Facts.{Facts}
+use Rattle.rules.specs.Facts.{factsAt, Facts}
 use Rattle.rules.specs.Growth.{Sound}
-use Rattle.rules.specs.Step.{leftFrom, rightFrom, factsAt, ruledOf, FactAt, Holds, RuleClosed}
+use Rattle.rules.specs.Step.{leftFrom, rightFrom, ruledOf, FactAt, Holds, RuleClosed}
 use Rattle.rules.proofs.Reading.{left-below, right-below}
 use Rattle.rules.proofs.Steps.{table-sound}
 

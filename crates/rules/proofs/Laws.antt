@@ -1,27 +1,18 @@
 -- What a table that has the facts tells: a kind of FIRST or SNF is below the number of kinds, and is told for every kind.
-use Prim.Native.Nat.{ℕ, _+_, _*_, _^_, _<_}
+use Prim.Native.Nat.{ℕ, _^_, _≤_, _<_}
 use mathlib.Core.List.{List}
 use mathlib.Core.Logic.{_↔_}
-use native.Mathlib.Decide.{decLt}
 use native.Mathlib.Omega.{arith}
 use lib.ListN.{getD}
 use Rattle.kinds.specs.Kinds.{Has}
-use Rattle.kinds.proofs.Laws.{beyond}
+use Rattle.kinds.proofs.Laws.{has-below}
 use Rattle.book.specs.Book.{Proper, token-is}
 use Rattle.book.specs.declared.Node.{Node}
 use Rattle.book.specs.declared.Node.the-variants.{Token}
 use Rattle.grammar.specs.Rules.{First, Snf, f-token, f-left, f-right, f-hold, f-skip, f-tagged, f-ref, s-left, s-right, s-first-left, s-first-right, s-then-left, s-then-right, s-tagged, s-ref}
-use Rattle.rules.specs.Facts.{Facts}
+use Rattle.rules.specs.Facts.{factsAt, Facts}
 use Rattle.rules.specs.Step.{leftFrom, rightFrom}
 use Rattle.rules.proofs.Reading.{left-below, right-below}
-
--- a 64-bit set has kinds below 64
-pub has-below : {mask k : ℕ} → mask < 2 ^ 64 → Has mask k → k < 64
-has-below {mask} {k} small has = go (decLt k 64)
-  where
-    go : Dec (k < 64) → k < 64
-    go (yes l) = l
-    go (no f) = absurd (beyond 64 small (omega arith) has)
 
 -- ---- kinds
 
@@ -72,17 +63,17 @@ module _ {node : ℕ → Node} {kinds count : ℕ} (proper : (n : ℕ) → n < c
 
 -- ---- a table that has the facts
 
-module _ {node : ℕ → Node} {count : ℕ} {table : List ℕ} (facts : Facts node count table) {n : ℕ} (below : n < count) where
-  -- where the numbers of the table are 64-bit numbers and the nodes proper, FIRST and SNF are told for every kind
-  module _ (fits : (i : ℕ) → getD table i 0 < 2 ^ 64) (proper : (m : ℕ) → m < count → Proper 64 count m (node m)) where
-    pub first-iff : (k : ℕ) → Has (getD table (4 * n + 2) 0) k ↔ First node (node n) k
-    first-iff k = (
-      (λ has. facts .first-is n k below (has-below (fits (4 * n + 2)) has) .0 has),
-      (λ first. facts .first-is n k below (first-below proper below first) .1 first),
-    )
+-- where the numbers of the table are 64-bit numbers and the nodes proper, FIRST and SNF are told for every kind
+module _ {node : ℕ → Node} {kinds count : ℕ} {table : List ℕ} (facts : Facts node count table) (fits : (i : ℕ) → getD table i 0 < 2 ^ 64)
+    (few : kinds ≤ 64) (proper : (m : ℕ) → m < count → Proper kinds count m (node m)) {n : ℕ} (below : n < count) where
+  pub first-iff : (k : ℕ) → Has (factsAt table n .first) k ↔ First node (node n) k
+  first-iff k = (
+    (λ has. facts .first-is n k below (has-below 64 (fits _) has) .0 has),
+    (λ first. facts .first-is n k below (omega (arith, first-below proper below first)) .1 first),
+  )
 
-    pub snf-iff : (k : ℕ) → Has (getD table (4 * n + 3) 0) k ↔ Snf node (node n) k
-    snf-iff k = (
-      (λ has. facts .snf-is n k below (has-below (fits (4 * n + 3)) has) .0 has),
-      (λ snf. facts .snf-is n k below (snf-below proper below snf) .1 snf),
-    )
+  pub snf-iff : (k : ℕ) → Has (factsAt table n .snf) k ↔ Snf node (node n) k
+  snf-iff k = (
+    (λ has. facts .snf-is n k below (has-below 64 (fits _) has) .0 has),
+    (λ snf. facts .snf-is n k below (omega (arith, snf-below proper below snf)) .1 snf),
+  )

@@ -1,12 +1,11 @@
 pub mod Growing
 pub mod Reading
+pub mod Laws
+pub mod Bounds
 pub mod Steps
 pub mod Complete
 pub mod Climbing
 pub mod Spreading
-pub mod Laws
-pub mod Reports
 pub mod Least
-pub mod Bounds
 pub mod Reaching
 pub mod Marks

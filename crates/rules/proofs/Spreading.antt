@@ -1,25 +1,30 @@
 -- Marks that spread from marked nodes to their children: each stands for a reachable node, and where none is new, all of those are marked.
 use Prim.Native.Nat.{ℕ, _+_, _*_, _/_, _%_, _≤_, _<_}
 use mathlib.Core.Path.{_≡_, refl, sym, _∙_, subst}
-use mathlib.Core.Bool.{Bool, false, _||_}
+use mathlib.Core.Bool.{Bool, true, false, _||_}
 use mathlib.Core.List.{List}
-use mathlib.Core.Logic.{_⊎_, inl, inr, ⊎-elim}
+use mathlib.Core.Logic.{_↔_, ⊎-elim}
 use native.Mathlib.Omega.{arith}
 use lib.ListN.{length}
 use Rattle.kinds.specs.Kinds.{Has, onlyKind}
-use Rattle.kinds.proofs.Laws.{has-single}
+use Rattle.kinds.proofs.Laws.{has?-is, has-single}
 use Rattle.book.specs.Book.{Proper}
 use Rattle.book.specs.Decode.{nodeAt, nodes, GoodNodes}
 use Rattle.book.specs.declared.Node.{Node}
 use Rattle.book.specs.declared.Node.the-variants.{Fail, Empty, Token, Either, Then, Tagged, Ref}
 use Rattle.grammar.specs.Rules.{Child, either-left, either-right, then-left, then-right, tagged-left, ref-left, Reach, r-start, r-child}
-use Rattle.rules.specs.Facts.{Marked, Reached}
+use Rattle.rules.specs.Facts.{marksSize, marked?, IsMarked, Reached}
 use Rattle.rules.specs.Growth.{Sound, Blank, Joined, Grown, Turned}
 use Rattle.rules.specs.Step.{leftFrom, rightFrom, ReachAt, ChildClosed, Spread}
 use Rattle.rules.proofs.Growing.{or-false, grown-none, grown-then, grown-sound, blank-sound, joined-grown, joined-has, joined-held}
-use Rattle.rules.proofs.Reading.{left-below, right-below, node-is, left-inside, right-inside}
+use Rattle.rules.proofs.Reading.{node-is, left-inside, right-inside}
+use Rattle.rules.proofs.Bounds.{child-side, reach-within}
 
 -- ---- marks
+
+-- the test of a mark decides
+pub marked-is : (marks : List ℕ) (n : ℕ) → (marked? marks n ≡ true) ↔ IsMarked marks n
+marked-is marks n = ((λ e. record { mark = has?-is _ _ .0 e }), (λ marked. has?-is _ _ .1 (marked .mark)))
 
 module _ {before after : List ℕ} {n : ℕ} {changed : Bool} (inside : n / 64 < length before)
     (joined : Joined before after (n / 64) (onlyKind (n % 64)) changed) where
@@ -33,15 +38,15 @@ module _ {before after : List ℕ} {n : ℕ} {changed : Bool} (inside : n / 64 <
           record { reach = rw whole reach }
 
   -- the node is then marked
-  pub mark-set : Marked after n
+  pub mark-set : IsMarked after n
   mark-set = record { mark = joined-has inside joined (n % 64) (has-single (n % 64) (n % 64) .1 refl) }
 
   -- where a mark is not new, it was there
-  pub mark-held : changed ≡ false → Marked before n
+  pub mark-held : changed ≡ false → IsMarked before n
   mark-held unchanged = record { mark = joined-held inside joined unchanged (n % 64) (has-single (n % 64) (n % 64) .1 refl) }
 
 -- blank marks with the start marked are sound, and have the start
-module _ {before after : List ℕ} {start : ℕ} {changed : Bool} (blank : Blank 8 before) (few : start < 512)
+module _ {before after : List ℕ} {start : ℕ} {changed : Bool} (blank : Blank marksSize before) (few : start < 512)
     (joined : Joined before after (start / 64) (onlyKind (start % 64)) changed) where
   start-in : start / 64 < length before
   start-in = omega (arith, blank .long)
@@ -49,24 +54,15 @@ module _ {before after : List ℕ} {start : ℕ} {changed : Bool} (blank : Blank
   pub start-sound : {node : ℕ → Node} → Sound (ReachAt node start) after
   start-sound = grown-sound (mark-grown start-in joined r-start) (blank-sound blank)
 
-  pub start-marked : Marked after start
+  pub start-marked : IsMarked after start
   start-marked = mark-set start-in joined
 
-marked-reach : {node : ℕ → Node} {start : ℕ} {marks : List ℕ} {n : ℕ} → Sound (ReachAt node start) marks → Marked marks n → Reach node start n
+marked-reach : {node : ℕ → Node} {start : ℕ} {marks : List ℕ} {n : ℕ} → Sound (ReachAt node start) marks → IsMarked marks n → Reach node start n
 marked-reach {node} {start} {marks} {n} sound marked =
     let whole : 64 * (n / 64) + n % 64 ≡ n = omega arith in
     rw whole at (sound .by (n / 64) (n % 64) (marked .mark) .reach)
 
 -- ---- children
-
--- a child is the left or the right
-child-side : {at : Node} {m : ℕ} (n : ℕ) → Child at m → (leftFrom n at ≡ m) ⊎ (rightFrom n at ≡ m)
-child-side n either-left = inl refl
-child-side n either-right = inr refl
-child-side n then-left = inl refl
-child-side n then-right = inr refl
-child-side n tagged-left = inl refl
-child-side n ref-left = inl refl
 
 module _ {node : ℕ → Node} {start n : ℕ} (reach : Reach node start n) where
   child-of : {at : Node} {m : ℕ} → node n ≡ at → Child at m → Reach node start m
@@ -93,8 +89,8 @@ module _ {node : ℕ → Node} {start n : ℕ} (reach : Reach node start n) wher
 
 -- a marked node that was read, whose left and right have been marked
 module _ {bytes : List ℕ} {base count n l r : ℕ} {at : Node} {before between after : List ℕ} {c d : Bool}
-    (good : GoodNodes bytes base count 64) (below : n < count) (read : at ≡ nodeAt bytes base n) (room : 8 ≤ length before)
-    (here : Marked before n) (l-is : l ≡ leftFrom n at) (left : Joined before between (l / 64) (onlyKind (l % 64)) c)
+    (good : GoodNodes bytes base count 64) (below : n < count) (read : at ≡ nodeAt bytes base n) (room : marksSize ≤ length before)
+    (here : IsMarked before n) (l-is : l ≡ leftFrom n at) (left : Joined before between (l / 64) (onlyKind (l % 64)) c)
     (r-is : r ≡ rightFrom n at) (right : Joined between after (r / 64) (onlyKind (r % 64)) d) where
   is : nodes bytes base count n ≡ at
   is = sym (node-is good below read)
@@ -112,12 +108,12 @@ module _ {bytes : List ℕ} {base count n l r : ℕ} {at : Node} {before between
     second : Grown (ReachAt (nodes bytes base count) start) between after d
     second = mark-grown r-in right (rw r-is (reach-right (marked-reach sound here) at is))
 
-    closed : (c || d) ≡ false → (m : ℕ) → Child (nodes bytes base count n) m → Marked before m
+    closed : (c || d) ≡ false → (m : ℕ) → Child (nodes bytes base count n) m → IsMarked before m
     closed unchanged m child =
         let (e, f) = or-false c d unchanged in
         ⊎-elim
-        (λ same. subst (Marked before) (l-is ∙ same) (mark-held l-in left e))
-        (λ same. subst (Marked before) (r-is ∙ same) (rw (first .still e) at (mark-held r-in right f)))
+        (λ same. subst (IsMarked before) (l-is ∙ same) (mark-held l-in left e))
+        (λ same. subst (IsMarked before) (r-is ∙ same) (rw (first .still e) at (mark-held r-in right f)))
         (child-side n (rw is at child))
 
   pub children-spread : Spread (nodes bytes base count) n before after (c || d)
@@ -129,7 +125,7 @@ module _ {bytes : List ℕ} {base count n l r : ℕ} {at : Node} {before between
   }
 
 -- a node that is not marked has nothing to spread
-pub none-spread : {node : ℕ → Node} {marks : List ℕ} {n : ℕ} → (Marked marks n → ⊥) → Spread node n marks marks false
+pub none-spread : {node : ℕ → Node} {marks : List ℕ} {n : ℕ} → (IsMarked marks n → ⊥) → Spread node n marks marks false
 none-spread {node} {marks} unmarked = record {
   from = λ start sound. record {
     grown = grown-none marks;
@@ -139,22 +135,13 @@ none-spread {node} {marks} unmarked = record {
 
 -- ---- all reachable nodes
 
-child-below : {kinds count n m : ℕ} {at : Node} → n < count → Proper kinds count n at → Child at m → m < count
-child-below {n = n} below proper child =
-    ⊎-elim (λ same. rw same at (left-below below proper)) (λ same. rw same at (right-below below proper)) (child-side n child)
-
 module _ {node : ℕ → Node} {kinds start count : ℕ} (proper : (n : ℕ) → n < count → Proper kinds count n (node n)) (start-below : start < count) where
-  -- reachable nodes are below the count
-  pub reach-below : {n : ℕ} → Reach node start n → n < count
-  reach-below r-start = start-below
-  reach-below (r-child reach child) = child-below (reach-below reach) (proper _ (reach-below reach)) child
-
   -- after a turn over sound marks that changed nothing, the reachable nodes are marked
-  pub turned-reached : {before after : List ℕ} {changed : Bool} → Sound (ReachAt node start) before → Marked before start
+  pub turned-reached : {before after : List ℕ} {changed : Bool} → Sound (ReachAt node start) before → IsMarked before start
       → Turned (ReachAt node start) (ChildClosed node) count before after changed → changed ≡ false → Reached node start count after
   turned-reached {before} {after} sound started turned unchanged =
       rw (turned .grown .still unchanged) (record { reach-is = λ n below. (marked-reach sound, marked) })
     where
-      marked : {n : ℕ} → Reach node start n → Marked before n
+      marked : {n : ℕ} → Reach node start n → IsMarked before n
       marked r-start = started
-      marked (r-child {n = n} {m = m} reach child) = turned .closed unchanged n (reach-below reach) .children m child (marked reach)
+      marked (r-child {n = n} {m = m} reach child) = turned .closed unchanged n (reach-within proper start-below reach) .children m child (marked reach)

@@ -14,7 +14,8 @@ use Rattle.book.specs.declared.Node.the-variants.{Fail, Empty, Token, Either, T
 use Rattle.grammar.specs.Rules.{p-empty, p-token, p-left, p-right, p-then, p-tagged, p-ref, n-empty, n-left, n-right, n-then, n-tagged, n-ref, f-token, f-left, f-right, f-hold, f-skip, f-tagged, f-ref, s-left, s-right, s-first-left, s-first-right, s-then-left, s-then-right, s-tagged, s-ref}
 use Rattle.rules.specs.declared.NodeFacts.{NodeFacts}
 use Rattle.rules.specs.Growth.{Sound, Joined, Grown}
-use Rattle.rules.specs.Step.{factsAt, ruledOf, factOf, Fact, FactAt, Given, Holds, PutAt}
+use Rattle.rules.specs.Facts.{tableSize, factsAt}
+use Rattle.rules.specs.Step.{ruledOf, factOf, Fact, FactAt, Given, Holds, PutAt}
 use Rattle.rules.proofs.Growing.{grown-then, grown-by, joined-grown, joined-has, joined-other}
 
 -- ---- four sets joined
@@ -33,7 +34,7 @@ holds-each {facts} {table} {n} productive nullable first snf = record { holds = 
     each (suc (suc (suc zero))) k l has = snf k has
     each (suc (suc (suc (suc more)))) k l has = absurd (omega arith)
 
-module _ {table one two three four : List ℕ} {n : ℕ} {facts : NodeFacts} {c d e f : Bool} (inside : 4 * n + 4 ≤ length table)
+module _ {table one two three four : List ℕ} {n : ℕ} {facts : NodeFacts} {c d e f : Bool} (inside : tableSize (n + 1) ≤ length table)
     (productive : Joined table one (4 * n) (facts .productive) c) (nullable : Joined one two (4 * n + 1) (facts .nullable) d)
     (first : Joined two three (4 * n + 2) (facts .first) e) (snf : Joined three four (4 * n + 3) (facts .snf) f) where
   given : (j k : ℕ) → j < 4 → Has (factOf facts j) k → Given n facts (4 * n + j) k

@@ -1,4 +1,3 @@
 pub mod Facts
-pub mod Conflicts
 pub mod Growth
 pub mod Step

@@ -6,12 +6,11 @@ use mathlib.Core.Bool.{Bool, true, false, cond}
 use mathlib.Core.List.{List}
 use lib.Dec.{eqb}
 use lib.ListN.{getD}
-use Rattle.kinds.specs.Kinds.{Has, everyKind, onlyKind, joined, inBoth, lowestKind}
+use Rattle.kinds.specs.Kinds.{Has, everyKind, onlyKind, joined, inBoth}
 use Rattle.book.specs.declared.Node.{Node}
 use Rattle.book.specs.declared.Node.the-variants.{Fail, Empty, Token, Either, Then, Tagged, Ref}
 use Rattle.grammar.specs.Rules.{Productive, Nullable, First, Snf, Child, Reach}
-use Rattle.rules.specs.Conflicts.{NO-CONFLICT, BOTH-NULLABLE}
-use Rattle.rules.specs.Facts.{Marked}
+use Rattle.rules.specs.Facts.{factsAt, IsMarked}
 use Rattle.rules.specs.Growth.{Sound, Grown, Visited, Turned}
 use Rattle.rules.specs.declared.NodeFacts.{NodeFacts}
 
@@ -44,15 +43,6 @@ kindOf (Either l r) = 0
 kindOf (Then l r) = 0
 kindOf (Tagged l t) = 0
 kindOf (Ref l) = 0
-
--- the facts that stand in a table for a node
-abbrev pub factsAt : List ℕ → ℕ → NodeFacts
-factsAt table n = record {
-  productive = getD table (4 * n) 0;
-  nullable = getD table (4 * n + 1) 0;
-  first = getD table (4 * n + 2) 0;
-  snf = getD table (4 * n + 3) 0;
-}
 
 -- what the rules give an either by the facts of its left and right
 abbrev pub eitherFacts : NodeFacts → NodeFacts → NodeFacts
@@ -141,29 +131,13 @@ pub record Climbed (node : ℕ → Node) (count : ℕ) (before after : List ℕ)
   pub grown : Grown (FactAt node) before after changed
   pub closed : (n : ℕ) → n < count → isRef (node n) ≡ false → RuleClosed node after n
 
--- what is answered at an either: that both sides are nullable, before the lowest kind shared
-pub record EitherReport (both shared answer : ℕ) : Type 0 where
-  pub nullable : both ≢ 0 → answer ≡ BOTH-NULLABLE
-  pub first : both ≡ 0 → answer ≡ lowestKind shared
-
--- what is reported at a node by the facts of its left and right
-unfoldable pub reportedOf : Node → NodeFacts → NodeFacts → ℕ
-reportedOf Fail left right = NO-CONFLICT
-reportedOf Empty left right = NO-CONFLICT
-reportedOf (Token k) left right = NO-CONFLICT
-reportedOf (Either l r) left right =
-    cond (eqb (inBoth (left .nullable) (right .nullable)) 0) (lowestKind (inBoth (left .first) (right .first))) BOTH-NULLABLE
-reportedOf (Then l r) left right = lowestKind (inBoth (left .snf) (right .first))
-reportedOf (Tagged l t) left right = NO-CONFLICT
-reportedOf (Ref l) left right = NO-CONFLICT
-
 -- a mark at a place stands for a reachable node
 pub record ReachAt (node : ℕ → Node) (start i k : ℕ) : Type 0 where
   pub reach : Reach node start (64 * i + k)
 
 -- the marks have the children of a marked node
 pub record ChildClosed (node : ℕ → Node) (marks : List ℕ) (n : ℕ) : Type 0 where
-  pub children : (m : ℕ) → Child (node n) m → Marked marks n → Marked marks m
+  pub children : (m : ℕ) → Child (node n) m → IsMarked marks n → IsMarked marks m
 
 -- a node's children have been marked if it is: from any start, all by reaching
 pub record Spread (node : ℕ → Node) (n : ℕ) (before after : List ℕ) (changed : Bool) : Type 0 where

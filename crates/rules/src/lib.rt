@@ -1,20 +1,21 @@
-// The rules of figure 5.
+// The rules of figure 5: the facts of a book's nodes, and which of them are reachable.
 ghost use mathlib.Core.Path.{_≡_};
 ghost use Prim.Native.Nat.{_+_, _*_, _/_, _%_, _≤_, _<_};
 ghost use lib.ListN.{length, getD};
 ghost use Rattle.kinds.specs.Kinds.{has?, onlyKind};
 ghost use Rattle.book.specs.Decode.{nodes, GoodNodes};
-ghost use Rattle.rules.specs.Facts.{Facts, Reached, Marked};
-ghost use Rattle.rules.specs.Conflicts.{ConflictAt, Conflicting, LowestConflict};
+ghost use Rattle.rules.specs.Facts.{factsAt, tableSize, marksSize, Facts, marked?, IsMarked, Reached};
 ghost use Rattle.rules.specs.Growth.{Sound, Blank, Joined, Visited, Turned, visitedAt};
-ghost use Rattle.rules.specs.Step.{leftFrom, rightFrom, kindOf, factsAt, eitherFacts, thenFacts, ruledOf, isRef, EitherReport, reportedOf, FactAt, Given, PutAt, RefClosed, Climbed, Spread, SpreadAll};
+ghost use Rattle.rules.specs.Step.{leftFrom, rightFrom, kindOf, eitherFacts, thenFacts, ruledOf, isRef, FactAt, Given, PutAt, RefClosed, Climbed, Spread, SpreadAll};
 use book::Node;
 
-// What is answered for a node without a conflict.
-pub const NO_CONFLICT: usize = 64;
+// How many numbers a table of facts has: for 64 nodes, and for 512.
+pub const SMALL_TABLE: usize = 256;
 
-// What is answered where both sides of an either are nullable.
-pub const BOTH_NULLABLE: usize = 255;
+pub const TABLE: usize = 2048;
+
+// How many numbers the marks of 512 nodes have.
+pub const MARKS: usize = 8;
 
 // The facts of a node: productive and nullable as no kind or all kinds, FIRST and SNF as sets of kinds.
 pub struct NodeFacts {
@@ -25,7 +26,7 @@ pub struct NodeFacts {
 }
 
 // The left of a node, its own number where it has none.
-fn left_from(own: usize, node: Node) -> usize
+pub fn left_from(own: usize, node: Node) -> usize
     ensures { λ r. ⌜ r ≡ leftFrom own node ⌝ }
 {
     match node {
@@ -40,7 +41,7 @@ fn left_from(own: usize, node: Node) -> usize
 }
 
 // The right of a node, its own number where it has none.
-fn right_from(own: usize, node: Node) -> usize
+pub fn right_from(own: usize, node: Node) -> usize
     ensures { λ r. ⌜ r ≡ rightFrom own node ⌝ }
 {
     match node {
@@ -56,7 +57,7 @@ fn right_from(own: usize, node: Node) -> usize
 
 // The facts that stand in the table for a node.
 pub fn facts_at(table: &[u64], n: usize) -> NodeFacts
-    requires { ⌜ 4 * n + 4 ≤ length (now table) ⌝ }
+    requires { ⌜ tableSize (n + 1) ≤ length (now table) ⌝ }
     ensures { λ r. ⌜ r ≡ factsAt (now (table .entry)) n ⌝ }
 {
     let at = 4 * n;
@@ -95,8 +96,8 @@ fn then_facts(left: NodeFacts, right: NodeFacts) -> NodeFacts
 // What the rules give a node by the table's facts of its left and right.
 fn ruled(node: Node, table: &[u64]) -> NodeFacts
     requires { ⌜ kindOf node < 64 ⌝ }
-    requires { ⌜ 4 * leftFrom 0 node + 4 ≤ length (now table) ⌝ }
-    requires { ⌜ 4 * rightFrom 0 node + 4 ≤ length (now table) ⌝ }
+    requires { ⌜ tableSize (leftFrom 0 node + 1) ≤ length (now table) ⌝ }
+    requires { ⌜ tableSize (rightFrom 0 node + 1) ≤ length (now table) ⌝ }
     ensures { λ r. ⌜ r ≡ ruledOf node (factsAt (now (table .entry))) ⌝ }
 {
     match node {
@@ -138,7 +139,7 @@ fn grow(sets: &mut [u64], i: usize, more: u64) -> bool
 
 // Joins the facts of a node with more. Whether any changed.
 fn put(table: &mut [u64], n: usize, more: NodeFacts) -> bool
-    requires { ⌜ 4 * n + 4 ≤ length (now table) ⌝ }
+    requires { ⌜ tableSize (n + 1) ≤ length (now table) ⌝ }
     ensures { λ r. ⌜ PutAt (Given n more) more n (now (table .entry)) (now (table .exit)) r ⌝ }
 {
     let at = 4 * n;
@@ -153,7 +154,7 @@ fn put(table: &mut [u64], n: usize, more: NodeFacts) -> bool
 fn visit(book: &[u8], base: usize, count: usize, n: usize, table: &mut [u64]) -> bool
     requires { ⌜ GoodNodes (now book) base count 64 ⌝ }
     requires { ⌜ n < count ⌝ }
-    requires { ⌜ 4 * count ≤ length (now table) ⌝ }
+    requires { ⌜ tableSize count ≤ length (now table) ⌝ }
     requires { ⌜ Sound (FactAt (nodes (now book) base count)) (now table) ⌝ }
     ensures { λ r. ⌜ PutAt (FactAt (nodes (now (book .entry)) base count)) (ruledOf (nodes (now (book .entry)) base count n) (factsAt (now (table .entry)))) n (now (table .entry)) (now (table .exit)) r ⌝ }
 {
@@ -165,7 +166,7 @@ fn visit(book: &[u8], base: usize, count: usize, n: usize, table: &mut [u64]) ->
 // Visits every node upward. Whether any fact changed.
 fn visit_all(book: &[u8], base: usize, count: usize, table: &mut [u64]) -> bool
     requires { ⌜ GoodNodes (now book) base count 64 ⌝ }
-    requires { ⌜ 4 * count ≤ length (now table) ⌝ }
+    requires { ⌜ tableSize count ≤ length (now table) ⌝ }
     requires { ⌜ Sound (FactAt (nodes (now book) base count)) (now table) ⌝ }
     ensures { λ r. ⌜ Climbed (nodes (now (book .entry)) base count) count (now (table .entry)) (now (table .exit)) r ⌝ }
 {
@@ -197,7 +198,7 @@ fn is_ref(node: Node) -> bool
 fn visit_ref(book: &[u8], base: usize, count: usize, n: usize, table: &mut [u64]) -> bool
     requires { ⌜ GoodNodes (now book) base count 64 ⌝ }
     requires { ⌜ n < count ⌝ }
-    requires { ⌜ 4 * count ≤ length (now table) ⌝ }
+    requires { ⌜ tableSize count ≤ length (now table) ⌝ }
     requires { ⌜ Sound (FactAt (nodes (now book) base count)) (now table) ⌝ }
     ensures { λ r. ⌜ Visited (FactAt (nodes (now (book .entry)) base count)) (RefClosed (nodes (now (book .entry)) base count)) n (now (table .entry)) (now (table .exit)) r ⌝ }
 {
@@ -221,7 +222,7 @@ fn visited(count: usize, downward: bool, i: usize) -> usize
 // Visits every ref downward. Whether any fact changed.
 fn visit_refs(book: &[u8], base: usize, count: usize, table: &mut [u64]) -> bool
     requires { ⌜ GoodNodes (now book) base count 64 ⌝ }
-    requires { ⌜ 4 * count ≤ length (now table) ⌝ }
+    requires { ⌜ tableSize count ≤ length (now table) ⌝ }
     requires { ⌜ Sound (FactAt (nodes (now book) base count)) (now table) ⌝ }
     ensures { λ r. ⌜ Turned (FactAt (nodes (now (book .entry)) base count)) (RefClosed (nodes (now (book .entry)) base count)) count (now (table .entry)) (now (table .exit)) r ⌝ }
 {
@@ -238,7 +239,7 @@ fn visit_refs(book: &[u8], base: usize, count: usize, table: &mut [u64]) -> bool
 // can lack facts, and where none does, the table has them all.
 pub fn least_facts(book: &[u8], base: usize, count: usize, table: &mut [u64])
     requires { ⌜ GoodNodes (now book) base count 64 ⌝ }
-    requires { ⌜ Blank (4 * count) (now table) ⌝ }
+    requires { ⌜ Blank (tableSize count) (now table) ⌝ }
     ensures { λ _. ⌜ Facts (nodes (now (book .entry)) base count) count (now (table .exit)) ⌝ }
 {
     visit_all(book, base, count, table);
@@ -248,9 +249,10 @@ pub fn least_facts(book: &[u8], base: usize, count: usize, table: &mut [u64])
 }
 
 // Whether a node is marked, 64 nodes to a set.
-fn is_marked(marks: &[u64], n: usize) -> bool
-    requires { ⌜ n / 64 < length (now marks) ⌝ }
-    ensures { λ r. ⌜ r ≡ has? (getD (now (marks .entry)) (n / 64) 0) (n % 64) ⌝ }
+pub fn is_marked(marks: &[u64], n: usize) -> bool
+    requires { ⌜ n < 512 ⌝ }
+    requires { ⌜ marksSize ≤ length (now marks) ⌝ }
+    ensures { λ r. ⌜ r ≡ marked? (now (marks .entry)) n ⌝ }
 {
     kinds::has(marks[n / 64], n % 64)
 }
@@ -267,8 +269,8 @@ fn mark(marks: &mut [u64], n: usize) -> bool
 fn mark_children(book: &[u8], base: usize, count: usize, n: usize, marks: &mut [u64]) -> bool
     requires { ⌜ GoodNodes (now book) base count 64 ⌝ }
     requires { ⌜ n < count ⌝ }
-    requires { ⌜ 8 ≤ length (now marks) ⌝ }
-    requires { ⌜ Marked (now marks) n ⌝ }
+    requires { ⌜ marksSize ≤ length (now marks) ⌝ }
+    requires { ⌜ IsMarked (now marks) n ⌝ }
     ensures { λ r. ⌜ Spread (nodes (now (book .entry)) base count) n (now (marks .entry)) (now (marks .exit)) r ⌝ }
 {
     let node = book::node_at(book, base, n);
@@ -281,7 +283,7 @@ fn mark_children(book: &[u8], base: usize, count: usize, n: usize, marks: &mut [
 fn spread(book: &[u8], base: usize, count: usize, n: usize, marks: &mut [u64]) -> bool
     requires { ⌜ GoodNodes (now book) base count 64 ⌝ }
     requires { ⌜ n < count ⌝ }
-    requires { ⌜ 8 ≤ length (now marks) ⌝ }
+    requires { ⌜ marksSize ≤ length (now marks) ⌝ }
     ensures { λ r. ⌜ Spread (nodes (now (book .entry)) base count) n (now (marks .entry)) (now (marks .exit)) r ⌝ }
 {
     if is_marked(marks, n) {
@@ -294,7 +296,7 @@ fn spread(book: &[u8], base: usize, count: usize, n: usize, marks: &mut [u64]) -
 // Marks the children of every marked node, downward or upward. Whether any mark is new.
 fn spread_all(book: &[u8], base: usize, count: usize, downward: bool, marks: &mut [u64]) -> bool
     requires { ⌜ GoodNodes (now book) base count 64 ⌝ }
-    requires { ⌜ 8 ≤ length (now marks) ⌝ }
+    requires { ⌜ marksSize ≤ length (now marks) ⌝ }
     ensures { λ r. ⌜ SpreadAll (nodes (now (book .entry)) base count) count (now (marks .entry)) (now (marks .exit)) r ⌝ }
 {
     let mut changed = false;
@@ -311,7 +313,7 @@ fn spread_all(book: &[u8], base: usize, count: usize, downward: bool, marks: &mu
 pub fn reach(book: &[u8], base: usize, count: usize, start: usize, marks: &mut [u64])
     requires { ⌜ GoodNodes (now book) base count 64 ⌝ }
     requires { ⌜ start < count ⌝ }
-    requires { ⌜ Blank 8 (now marks) ⌝ }
+    requires { ⌜ Blank marksSize (now marks) ⌝ }
     ensures { λ _. ⌜ Reached (nodes (now (book .entry)) base count) start count (now (marks .exit)) ⌝ }
 {
     mark(marks, start);
@@ -319,90 +321,4 @@ pub fn reach(book: &[u8], base: usize, count: usize, start: usize, marks: &mut [
     while spread_all(book, base, count, downward, marks) {
         downward = !downward;
     }
-}
-
-// What is reported at an either, where both sides are nullable before the lowest kind shared.
-fn either_report(both: u64, shared: u64) -> usize
-    ensures { λ r. ⌜ EitherReport both shared r ⌝ }
-{
-    if both == 0 {
-        kinds::lowest(shared)
-    } else {
-        BOTH_NULLABLE
-    }
-}
-
-// What is reported at a node by the facts of its left and right.
-fn reported(node: Node, left: NodeFacts, right: NodeFacts) -> usize
-    ensures { λ r. ⌜ r ≡ reportedOf node left right ⌝ }
-{
-    match node {
-        Node::Fail => NO_CONFLICT,
-        Node::Empty => NO_CONFLICT,
-        Node::Token(_) => NO_CONFLICT,
-        Node::Either(_, _) => {
-            either_report(left.nullable & right.nullable, left.first & right.first)
-        }
-        Node::Then(_, _) => kinds::lowest(left.snf & right.first),
-        Node::Tagged(_, _) => NO_CONFLICT,
-        Node::Ref(_) => NO_CONFLICT,
-    }
-}
-
-// The kind reported at a node, or that it has no conflict.
-pub fn conflict_at(book: &[u8], base: usize, count: usize, n: usize, table: &[u64]) -> usize
-    requires { ⌜ GoodNodes (now book) base count 64 ⌝ }
-    requires { ⌜ n < count ⌝ }
-    requires { ⌜ 4 * count ≤ length (now table) ⌝ }
-    requires { ⌜ Facts (nodes (now book) base count) count (now table) ⌝ }
-    ensures { λ r. ⌜ ConflictAt (nodes (now (book .entry)) base count) (nodes (now (book .entry)) base count n) r ⌝ }
-{
-    let node = book::node_at(book, base, n);
-    let left = facts_at(table, left_from(n, node));
-    let right = facts_at(table, right_from(n, node));
-    reported(node, left, right)
-}
-
-// Whether a node is marked and has a conflict.
-fn conflicting(
-    book: &[u8],
-    base: usize,
-    count: usize,
-    n: usize,
-    table: &[u64],
-    marks: &[u64],
-) -> bool
-    requires { ⌜ GoodNodes (now book) base count 64 ⌝ }
-    requires { ⌜ n < count ⌝ }
-    requires { ⌜ 4 * count ≤ length (now table) ⌝ }
-    requires { ⌜ Facts (nodes (now book) base count) count (now table) ⌝ }
-    requires { ⌜ 8 ≤ length (now marks) ⌝ }
-    ensures { λ r. ⌜ Conflicting (nodes (now (book .entry)) base count) (Marked (now (marks .entry))) n r ⌝ }
-{
-    let kind = conflict_at(book, base, count, n, table);
-    is_marked(marks, n) & (kind != NO_CONFLICT)
-}
-
-// The lowest marked node that has a conflict, or the count where none has one.
-pub fn lowest_conflict(
-    book: &[u8],
-    base: usize,
-    count: usize,
-    table: &[u64],
-    marks: &[u64],
-) -> usize
-    requires { ⌜ GoodNodes (now book) base count 64 ⌝ }
-    requires { ⌜ 4 * count ≤ length (now table) ⌝ }
-    requires { ⌜ Facts (nodes (now book) base count) count (now table) ⌝ }
-    requires { ⌜ 8 ≤ length (now marks) ⌝ }
-    ensures { λ r. ⌜ LowestConflict (nodes (now (book .entry)) base count) (Marked (now (marks .entry))) count r ⌝ }
-{
-    let mut n = 0;
-    while n < count {
-        if conflicting(book, base, count, n, table, marks) {
-            return n;
-        }
-        n += 1;
-    }
-    n
 }

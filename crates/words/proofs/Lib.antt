@@ -1,2 +1,5 @@
+pub mod Bytes
 pub mod Cleared
+pub mod Lists
+pub mod Stored
 pub mod Tests

@@ -7,12 +7,13 @@ use Rattle.words.specs.Words.{zeros}
 use Rattle.book.specs.Form.{DONE, bookOf}
 use Rattle.book.specs.declared.Node.{Node}
 use Rattle.book.specs.declared.Node.the-variants.{Fail, Empty, Token, Either, Then, Tagged, Ref}
-use Rattle.plan.specs.Bytes.{wordBytes}
+use Rattle.writer.specs.Bytes.{wordBytes}
 use Rattle.plan.specs.Form.{rowsAt}
-use Rattle.plan.specs.Running.{emptied}
-use Rattle.compiler.specs.Compiles.{CONFLICT, answer, Compiles}
+use Rattle.running.specs.Running.{emptied, DEEP, UNKNOWN, UNEXPECTED, END}
+use Rattle.verdict.specs.Judges.{CONFLICT}
+use Rattle.compiler.specs.Compiles.{answer, Compiles}
 use Rattle.reader.specs.declared.Reading.{Reading}
-use Rattle.reader.specs.Numbers.{DEEP, UNKNOWN, UNEXPECTED, END, NO-ROOM, answered}
+use Rattle.reader.specs.Numbers.{NO-ROOM, answered}
 use Rattle.reader.specs.Reads.{outcome, readOf}
 
 -- a book as document 01 writes it: kinds, start and nodes

@@ -2,17 +2,18 @@
 //!
 //! `fuzz [--seconds N | --cases N] [--seed S] [--first N] [--calls form,compile,read,listing]`
 //!
-//! Prints its seed first. The cases of a seed are the same at each run; all run in a child process, so a crash is reported like a
-//! wrong answer. At a failure prints the smallest failing case that it finds, with both answers, and exits with status 1.
+//! Prints the version and its seed first. The cases of a seed are the same at each run; all run in a child process,
+//! so a crash is reported like a wrong answer. At a failure prints the smallest failing case that it finds, with both
+//! answers, and exits with status 1. It also fails where, of enough cases, an answer came seldomer than the table of
+//! calls says.
 
-use host::answers::ANSWERS;
-use host::calls::Lender;
-use host::ffi;
-use host::fuzz::case::*;
+use host::answers::{answer_name, ANSWERS};
+use host::calls::lender::Lender;
+use host::calls::{Call, CALLS};
+use host::fuzz::case::Case;
 use host::fuzz::child::{end_after, in_child, shared_numbers, Ended};
 use host::fuzz::make::case;
 use host::fuzz::shrink::smallest;
-use host::program::Program;
 use std::env;
 use std::process::ExitCode;
 use std::sync::atomic::{AtomicU64, Ordering::Relaxed};
@@ -28,13 +29,19 @@ const PATIENCE: u32 = 20;
 const LOOKED_AT: u64 = 2_000;
 const LOOKED_FOR: Duration = Duration::from_secs(10);
 
+/// From this many cases on, every answer must have come as often as the table of calls says.
+const ENOUGH: u64 = 100_000;
+
+/// The cases that the table's least counts are of.
+const COUNTED_OF: u64 = 100_000;
+
 /// What the arguments ask for.
 struct Options {
     seed: u64,
     first: u64,
     cases: u64,
     time: Duration,
-    names: Vec<Name>,
+    calls: Vec<&'static Call>,
 }
 
 /// What the child process tells its parent: the case it is at, and how often each call gave each answer.
@@ -52,16 +59,25 @@ fn main() -> ExitCode {
             return ExitCode::from(2);
         }
     };
-    println!("seed {}", options.seed);
-    let tested = tested(&options.names);
+    println!(
+        "drumbook {}, seed {}",
+        env!("DRUMBOOK_VERSION"),
+        options.seed
+    );
     let progress = progress();
-    let ended = in_child(|| run(&options, &tested, &progress));
-    progress.print(&options.names);
-    if ended == Ended::Well {
-        return ExitCode::SUCCESS;
+    let ended = in_child(|| run(&options, &progress));
+    progress.print(&options.calls);
+    if ended != Ended::Well {
+        report(&options, progress.at.load(Relaxed));
+        return ExitCode::FAILURE;
     }
-    report(&options, &tested, progress.at.load(Relaxed));
-    ExitCode::FAILURE
+    match progress.seldom(&options.calls) {
+        Some(seldom) => {
+            println!("FAILED: {seldom}");
+            ExitCode::FAILURE
+        }
+        None => ExitCode::SUCCESS,
+    }
 }
 
 /// What the arguments ask for, or what is wrong with them.
@@ -71,7 +87,7 @@ fn options() -> Result<Options, String> {
         first: 0,
         cases: u64::MAX,
         time: Duration::MAX,
-        names: NAMES.to_vec(),
+        calls: CALLS.to_vec(),
     };
     let mut arguments = env::args().skip(1);
     while let Some(name) = arguments.next() {
@@ -81,7 +97,7 @@ fn options() -> Result<Options, String> {
             "--cases" => options.cases = number(&value)?,
             "--seed" => options.seed = number(&value)?,
             "--first" => options.first = number(&value)?,
-            "--calls" => options.names = names(&value)?,
+            "--calls" => options.calls = calls(&value)?,
             _ => return Err(format!("no such argument: {name}")),
         }
     }
@@ -103,47 +119,37 @@ fn number(value: &str) -> Result<u64, String> {
 }
 
 /// The calls that an argument names.
-fn names(value: &str) -> Result<Vec<Name>, String> {
-    let named = |word: &str| NAMES.into_iter().find(|name| name.to_string() == word);
+fn calls(value: &str) -> Result<Vec<&'static Call>, String> {
+    let named = |word: &str| CALLS.into_iter().find(|call| call.name == word);
     value
         .split(',')
         .map(|word| named(word).ok_or(format!("no such call: {word}")))
         .collect()
 }
 
-/// The proved library, and the listing program where it is called.
-fn tested(names: &[Name]) -> Tested {
-    Tested {
-        form: ffi::form::form,
-        compile: ffi::compile::compile,
-        read: ffi::read::read,
-        program: names.contains(&Name::Listing).then(Program::under_test),
-    }
-}
-
 /// Runs the cases until one fails or all are done; whether none failed.
-fn run(options: &Options, tested: &Tested, progress: &Progress) -> bool {
+fn run(options: &Options, progress: &Progress) -> bool {
     let begun = Instant::now();
-    let mut lender = Lender::ample();
+    let mut lender = Lender::default();
     for number in options.first..options.first.saturating_add(options.cases) {
         if begun.elapsed() >= options.time {
             break;
         }
         progress.at.store(number, Relaxed);
         end_after(PATIENCE);
-        let case = case(options.seed, number, &options.names);
+        let case = case(options.seed, number, &options.calls);
         let wanted = case.wanted();
-        if case.given(tested, &mut lender) != wanted {
+        if case.given(&mut lender) != wanted {
             return false;
         }
-        progress.count(case.call.name(), wanted.number());
+        progress.count(case.call, wanted.number());
     }
     true
 }
 
 /// Nothing done yet.
 fn progress() -> Progress {
-    let numbers = shared_numbers(1 + NAMES.len() * ANSWERS);
+    let numbers = shared_numbers(1 + CALLS.len() * ANSWERS);
     Progress {
         at: &numbers[0],
         counts: &numbers[1..],
@@ -152,63 +158,95 @@ fn progress() -> Progress {
 
 impl Progress {
     /// How often a call gave each answer.
-    fn counts_of(&self, name: Name) -> &[AtomicU64] {
-        &self.counts[name as usize * ANSWERS..][..ANSWERS]
+    fn counts_of(&self, call: &Call) -> &[AtomicU64] {
+        let place = CALLS.iter().position(|other| *other == call);
+        &self.counts[place.expect("a call of the table") * ANSWERS..][..ANSWERS]
     }
 
     /// Counts an answer of a call.
-    fn count(&self, name: Name, number: u32) {
-        self.counts_of(name)[number as usize].fetch_add(1, Relaxed);
+    fn count(&self, call: &Call, number: u32) {
+        self.counts_of(call)[number as usize].fetch_add(1, Relaxed);
+    }
+
+    /// How often a call gave this answer.
+    fn given(&self, call: &Call, number: u32) -> u64 {
+        self.counts_of(call)[number as usize].load(Relaxed)
+    }
+
+    /// How often a call was made.
+    fn total(&self, call: &Call) -> u64 {
+        let counts = self.counts_of(call).iter();
+        counts.map(|count| count.load(Relaxed)).sum()
     }
 
     /// Prints how often each of these calls gave each answer.
-    fn print(&self, names: &[Name]) {
-        for &name in names {
-            let given = self.counts_of(name).iter().map(|count| count.load(Relaxed));
-            let given: Vec<(u32, u64)> = (0..).zip(given).filter(|given| given.1 > 0).collect();
-            let total: u64 = given.iter().map(|given| given.1).sum();
-            let each: Vec<String> = given
-                .iter()
-                .map(|&(number, count)| format!("{} {count} times", answer_name(number)))
+    fn print(&self, calls: &[&Call]) {
+        for call in calls {
+            let each: Vec<String> = (0..ANSWERS as u32)
+                .map(|number| (number, self.given(call, number)))
+                .filter(|&(_, given)| given > 0)
+                .map(|(number, given)| format!("{} {given} times", answer_name(number)))
                 .collect();
+            let (name, total) = (call.name, self.total(call));
             println!("{name}: {total} cases; answers: {}", each.join(", "));
         }
+    }
+
+    /// What one of these calls answered less often than the table says, if there were cases enough to tell.
+    fn seldom(&self, calls: &[&Call]) -> Option<String> {
+        let all: u64 = calls.iter().map(|call| self.total(call)).sum();
+        if all < ENOUGH {
+            return None;
+        }
+        for call in calls {
+            let (name, total) = (call.name, self.total(call));
+            for &(number, least) in call.answers {
+                let given = self.given(call, number);
+                let due = (total * least / COUNTED_OF).max(1);
+                if given < due {
+                    let answer = answer_name(number);
+                    return Some(format!("{name} answered {answer} {given} times, not {due}"));
+                }
+            }
+        }
+        None
     }
 }
 
 /// Prints the case that failed, the smallest that still does, and both answers to that.
-fn report(options: &Options, tested: &Tested, number: u64) {
+fn report(options: &Options, number: u64) {
     let seed = options.seed;
-    let calls: Vec<String> = options.names.iter().map(Name::to_string).collect();
+    let calls: Vec<&str> = options.calls.iter().map(|call| call.name).collect();
     let calls = calls.join(",");
     println!(
         "FAILED: case {number}; again: --seed {seed} --first {number} --cases 1 --calls {calls}"
     );
-    let mut fails = |case: &Case| alone(case, tested, false) != Ended::Well;
+    let mut fails = |case: &Case| alone(case, false) != Ended::Well;
     let begun = Instant::now();
     let failed = (number..number.saturating_add(LOOKED_AT))
         .take_while(|_| begun.elapsed() < LOOKED_FOR)
-        .map(|at| case(seed, at, &options.names))
+        .map(|at| case(seed, at, &options.calls))
         .filter(|case| fails(case))
         .min_by_key(Case::size)
-        .unwrap_or_else(|| case(seed, number, &options.names));
+        .unwrap_or_else(|| case(seed, number, &options.calls));
     let smallest = smallest(failed, &mut fails);
     print!("the smallest case found that fails: {smallest}");
-    print!("wanted: {}", smallest.wanted());
-    match alone(&smallest, tested, true) {
+    print!("wanted: {}", smallest.call.told(&smallest.wanted()));
+    match alone(&smallest, true) {
         Ended::Signal(signal) => println!("given: ended by signal {signal}"),
         Ended::Badly => (),
         Ended::Well => println!("given: as wanted when tried alone"),
     }
 }
 
-/// How a case ends in a process of its own: well if both answers agree; what is given is printed where it is to be shown.
-fn alone(case: &Case, tested: &Tested, show: bool) -> Ended {
+/// How a case ends in a process of its own: well if both answers agree; what is given is printed where it is to be
+/// shown.
+fn alone(case: &Case, show: bool) -> Ended {
     in_child(|| {
         end_after(PATIENCE);
-        let given = case.given(tested, &mut Lender::ample());
+        let given = case.given(&mut Lender::default());
         if show {
-            print!("given: {given}");
+            print!("given: {}", case.call.told(&given));
         }
         given == case.wanted()
     })

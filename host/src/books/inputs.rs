@@ -6,19 +6,13 @@ use super::loose::{any_bytes, good_book};
 use super::random::Random;
 use super::runs::{any_run, Heights};
 use crate::book::LONGEST_BOOK;
-use crate::listing::MOST_EVENTS;
+use crate::listing::{input, MOST_EVENTS};
 
 /// The events of a run of the rinse book that fills the program's room for records.
 const FULL_TREE: usize = 2_049;
 
 /// The events of a run of the nesting book that needs about all slots.
 const FULL_SLOTS: usize = 1_022;
-
-/// The input with these bytes given as a book, their length before them, and these events.
-pub fn input(book: &[u8], run: &[u8]) -> Vec<u8> {
-    let length = book.len() as u16;
-    [&length.to_le_bytes(), book, run].concat()
-}
 
 /// An input of any sort.
 pub fn any_input(random: &mut Random) -> Vec<u8> {

@@ -1,22 +1,8 @@
-//! Books and runs that come to the limits: long runs, deep nesting, great trees.
+//! Runs that come to the limits: long ones and deep ones.
 
+use super::examples::{nesting, rinse};
 use super::random::Random;
-use crate::book::*;
-use crate::worked::rinse;
-
-/// A book of nested pairs of events 0 and 1.
-pub fn nesting() -> Book {
-    let nodes = [
-        (TOKEN, 0, 0),
-        (TOKEN, 1, 0),
-        (REF, 6, 0),
-        (THEN, 2, 1),
-        (THEN, 0, 3),
-        (EMPTY, 0, 0),
-        (EITHER, 4, 5),
-    ];
-    Book::ending(2, &nodes)
-}
+use crate::book::Book;
 
 /// A run of the nesting book: so many pairs.
 pub fn nested_run(pairs: usize) -> Vec<u8> {
@@ -33,19 +19,11 @@ pub fn rinse_run(events: usize) -> Vec<u8> {
     run
 }
 
-/// A book of 512 nodes, any number of events 0, where each event visits nearly all nodes; `skipping` where each visit also
-/// skips an empty part.
-pub fn winding(skipping: bool) -> Book {
-    let mut nodes = vec![(EMPTY, 0, 0), (TOKEN, 0, 0)];
-    for own in 2..509 {
-        nodes.push(if skipping {
-            (THEN, 0, own - 1)
-        } else {
-            (TAGGED, own - 1, own)
-        });
-    }
-    nodes.extend([(REF, 511, 0), (THEN, 508, 509), (EITHER, 510, 0)]);
-    Book::ending(1, &nodes)
+/// A run of a process of so many steps: as often as fits into the most events, each step with two of its other events.
+pub fn process_run(steps: usize, most: usize) -> Vec<u8> {
+    let once = (0..steps).flat_map(|step| [2 * step, 2 * step + 1, 2 * step + 1]);
+    let once: Vec<u8> = once.map(|kind| (kind % 64) as u8).collect();
+    once.repeat(most / once.len())
 }
 
 /// A book with a long or deep run of up to about this many events, now and then with its last event changed.

@@ -268,7 +268,8 @@ impl Maker<'_> {
         (turned, rest)
     }
 
-    /// Adds a rule: alternatives that begin with different kinds, now and then an empty one; past enough nodes just a token.
+    /// Adds a rule: alternatives that begin with different kinds, now and then an empty one; past enough nodes just a
+    /// token.
     fn rule(&mut self, heads: &[u16]) -> u16 {
         let first = self.kind();
         if self.nodes.len() > ENOUGH {

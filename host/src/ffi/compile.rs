@@ -3,7 +3,7 @@
 use crate::answers::Compiled;
 
 extern "C" {
-    fn drumbook_compile(
+    pub fn drumbook_compile(
         book: *const u8,
         book_len: usize,
         plan: *mut u8,

@@ -3,7 +3,7 @@
 use crate::answers::Formed;
 
 extern "C" {
-    fn drumbook_form(book: *const u8, book_len: usize) -> Formed;
+    pub fn drumbook_form(book: *const u8, book_len: usize) -> Formed;
 }
 
 /// What the proved library says of the form of a book.

@@ -11,14 +11,14 @@ const BESIDE: usize = 64;
 
 const PAGE: usize = 4096;
 const PROT_NONE: i32 = 0;
-const PROT_READ: i32 = 1;
-const PROT_WRITE: i32 = 2;
+pub(super) const PROT_READ: i32 = 1;
+pub(super) const PROT_WRITE: i32 = 2;
 const MAP_SHARED: i32 = 1;
-const MAP_ANONYMOUS: i32 = 32;
-const MREMAP_MAYMOVE: i32 = 1;
+pub(super) const MAP_ANONYMOUS: i32 = 32;
+pub(super) const MREMAP_MAYMOVE: i32 = 1;
 
 extern "C" {
-    fn mmap(
+    pub(super) fn mmap(
         at: *mut c_void,
         len: usize,
         prot: i32,
@@ -26,7 +26,13 @@ extern "C" {
         fd: i32,
         offset: i64,
     ) -> *mut c_void;
-    fn mremap(at: *mut c_void, old_len: usize, len: usize, flags: i32) -> *mut c_void;
+    pub(super) fn mremap(
+        at: *mut c_void,
+        old_len: usize,
+        len: usize,
+        flags: i32,
+        ...
+    ) -> *mut c_void;
     fn mprotect(at: *mut c_void, len: usize, prot: i32) -> i32;
     fn munmap(at: *mut c_void, len: usize) -> i32;
 }
@@ -155,7 +161,7 @@ impl<T: Copy + PartialEq> Lent<T> {
     }
 
     /// The part of this many numbers at an edge.
-    fn part(&mut self, count: usize, edge: Edge) -> &mut [T] {
+    pub fn part(&mut self, count: usize, edge: Edge) -> &mut [T] {
         let at = self.pages.at(count * size_of::<T>(), edge);
         // SAFETY: the part lies within the open pages, every bit pattern is a number, and the borrow is the only one.
         unsafe { slice::from_raw_parts_mut(at.cast(), count) }
@@ -172,7 +178,7 @@ pub fn map(bytes: usize) -> *mut u8 {
 }
 
 /// Gives memory back.
-fn unmap(at: *mut u8, bytes: usize) {
+pub(super) fn unmap(at: *mut u8, bytes: usize) {
     // SAFETY: the memory's owner is dropped, so nothing borrows it any more.
     unsafe { munmap(at.cast(), bytes) };
 }

@@ -3,7 +3,7 @@
 use crate::answers::Reading;
 
 extern "C" {
-    fn drumbook_read(
+    pub fn drumbook_read(
         plan: *const u8,
         plan_len: usize,
         run: *const u8,

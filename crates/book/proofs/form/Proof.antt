@@ -24,11 +24,12 @@ nodes-are : (c : tie.After-first-bad) →
     formOf (now (c .before .before .before .before .before .before .before .before .before .before .args .bytes))
     ≡ nodesForm (c .before .before .before .before .count-of .result) (c .first-bad .result)
 nodes-are c =
-    let tests = c .before .before .before .before .before in
-    rw
-    (c .first-bad .ensures, c .before .u16-at .ensures .0, c .before .before .before .before .count-of .ensures)
+    let settings = c .before .before .before in
+    let counted = settings .before in
+    let tests = counted .before in
+    rw (c .first-bad .ensures, c .before .u16-at .ensures .0, counted .count-of .ensures)
     (form-nodes _ (length-is (tests .before .before)) (contents-is tests)
-    (rw (← c .before .before .before .before .count-of .ensures) (sym (c .before .before .before .settings-good .ensures) ∙ not-false _ (c .before .before .if3 .left))))
+    (rw (← counted .count-of .ensures) (sym (settings .settings-good .ensures) ∙ not-false _ (c .before .before .if3 .left))))
 
 length-good-requires : tie.Need-length-good-requires
 length-good-requires c κs = search needs
@@ -37,7 +38,7 @@ returns : tie.Need-returns
 returns c = sym (form-length _ (sym (c .before .length-good .ensures) ∙ not-true _ (c .if1 .taken)))
 
 contents-good-requires : tie.Need-contents-good-requires
-contents-good-requires c κs = omega (arith, size-is c)
+contents-good-requires c κs = length-is c
 
 returns-2 : tie.Need-returns-2
 returns-2 c =
@@ -63,12 +64,13 @@ u16-at-requires c κs = omega (arith, size-is (c .before .before .before .before
 
 first-bad-requires : tie.Need-first-bad-requires
 first-bad-requires c κs =
-    omega (arith, size-is (c .before .before .before .before .before .before), c .before .before .before .count-of .ensures)
+    let counted = c .before .before .before in
+    omega (arith, size-is (counted .before .before .before), counted .count-of .ensures)
 
 cast-t7 : tie.Need-cast-t7
 cast-t7 c =
-    omega
-    (arith, size-is (c .before .before .before .before .before .before .before .before), c .before .before .before .before .before .count-of .ensures)
+    let counted = c .before .before .before .before .before in
+    omega (arith, size-is (counted .before .before .before), counted .count-of .ensures)
 
 returns-4 : tie.Need-returns-4
 returns-4 c = sym (nodes-are (c .before) ∙ rw (lt-ltb _ _ (c .if4 .taken)))

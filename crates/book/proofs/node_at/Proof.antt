@@ -13,6 +13,9 @@ add-at c = search needs
 u16-at-requires : tie.Need-u16-at-requires
 u16-at-requires c κs = search needs
 
+type-of-requires : tie.Need-type-of-requires
+type-of-requires c κs = search needs
+
 add-u16-at : tie.Need-add-u16-at
 add-u16-at c = search needs
 
@@ -25,8 +28,8 @@ add-u16-at-2 c = search needs
 u16-at-requires-3 : tie.Need-u16-at-requires-3
 u16-at-requires-3 c κs = search needs
 
-node-of-requires : tie.Need-node-of-requires
-node-of-requires c κs = search needs
+typed-node-requires : tie.Need-typed-node-requires
+typed-node-requires c κs = search needs
 
 returns : tie.Need-returns
 unfolding nodeAt
@@ -39,9 +42,10 @@ node-at-spec =
     mul-at
     add-at
     u16-at-requires
+    type-of-requires
     add-u16-at
     u16-at-requires-2
     add-u16-at-2
     u16-at-requires-3
-    node-of-requires
+    typed-node-requires
     returns)

@@ -13,6 +13,9 @@ add-at c = search needs
 u16-at-requires : tie.Need-u16-at-requires
 u16-at-requires c κs = search needs
 
+type-of-requires : tie.Need-type-of-requires
+type-of-requires c κs = search needs
+
 add-u16-at : tie.Need-add-u16-at
 add-u16-at c = search needs
 
@@ -39,6 +42,7 @@ node-good-spec =
     mul-at
     add-at
     u16-at-requires
+    type-of-requires
     add-u16-at
     u16-at-requires-2
     add-u16-at-2

@@ -1,49 +1,44 @@
--- `listed::list` meets its contract.
+-- `listed::list` meets its contract: what is written for the bytes that were read is written for the whole input.
 use borrow.Author.Needs.{needs}
+use borrow.Author.Tests.{not-true, not-false}
 use mathlib.Core.Path.{sym, _∙_}
-use Rattle.listed.specs.Listing.{too-long, too-short}
-use Rattle.listed.proofs.Inputs.{put-listed}
+use denote.Ref.{now}
+use lib.ListN.{length}
+use lib.Seq.{length-take-le}
+use Rattle.listed.proofs.Buffers.{Enough, suffices-enough, answers-nothing, answers-listed}
 use Rattle.listed.proofs.list.Statement.{statement}
 use Rattle.listed.proofs.list.Tie as tie
 
-shape-of-requires : tie.Need-shape-of-requires
-shape-of-requires c κs = search needs
+-- the function's entry, from the test of the lengths
+abbrev start : tie.After-suffice → tie.Start
+start c = c .before .before .before .before .before .before
 
-enum-told : tie.Need-enum-told
-enum-told c = search needs
+-- past that test the buffers suffice
+enough : (c : tie.Else1)
+    → let given = start (c .before) .args in
+    Enough (length (now (given .buffer))) (given .size) (length (now (given .out))) (length (now (given .plan)))
+    (length (now (given .held))) (length (now (given .tree)))
+enough c = suffices-enough _ _ _ _ _ _ (sym (c .before .suffice .ensures) ∙ not-false _ (c .if1 .left))
 
-slice-aggregate-put-bytes : tie.Need-slice-aggregate-put-bytes
-slice-aggregate-put-bytes c = search needs
+suffice-requires : tie.Need-suffice-requires
+suffice-requires c κs = search needs
 
-put-bytes-requires : tie.Need-put-bytes-requires
-put-bytes-requires c κs = search needs
+returns : tie.Need-returns
+returns c = answers-nothing _ _ _ _ _ _ (sym (c .before .suffice .ensures) ∙ not-true _ (c .if1 .taken))
 
-enum-told-2 : tie.Need-enum-told-2
-enum-told-2 c = search needs
+slice-aggregate-list-input : tie.Need-slice-aggregate-list-input
+slice-aggregate-list-input c = sym (length-take-le _ _ (enough (c .before) .read))
 
-slice-aggregate-put-bytes-2 : tie.Need-slice-aggregate-put-bytes-2
-slice-aggregate-put-bytes-2 c = search needs
-
-put-bytes-requires-2 : tie.Need-put-bytes-requires-2
-put-bytes-requires-2 c κs = search needs
-
-enum-told-3 : tie.Need-enum-told-3
-enum-told-3 c = search needs
-
-list-book-requires : tie.Need-list-book-requires
-list-book-requires c κs = (sym (c .before .before .before .before .before .before .shape-of .ensures) ∙ c .before .before .before .before .enum-told3 .given .1, c .before .before .before .before .before .before .before .before .before .before .before .before .pre)
+list-input-requires : tie.Need-list-input-requires
+list-input-requires c κs =
+    let fits = enough (c .before .before .before .before .before) in
+    record { cells = fits .cells; others = record { output = fits .lines; slots = fits .slots; records = fits .records } }
 
 same-length : tie.Need-same-length
 same-length c = search needs
 
-returns : tie.Need-returns
-returns c = put-listed (c .before .before .put-bytes .ensures) (too-long (sym (c .before .before .before .before .before .before .before .shape-of .ensures) ∙ c .before .before .before .before .before .enum-told .given .1))
-
 same-length-2 : tie.Need-same-length-2
 same-length-2 c = search needs
-
-returns-2 : tie.Need-returns-2
-returns-2 c = put-listed (c .before .before .put-bytes2 .ensures) (too-short (sym (c .before .before .before .before .before .before .before .shape-of .ensures) ∙ c .before .before .before .before .before .enum-told2 .given .1))
 
 same-length-3 : tie.Need-same-length-3
 same-length-3 c = search needs
@@ -51,34 +46,21 @@ same-length-3 c = search needs
 same-length-4 : tie.Need-same-length-4
 same-length-4 c = search needs
 
-same-length-5 : tie.Need-same-length-5
-same-length-5 c = search needs
-
-same-length-6 : tie.Need-same-length-6
-same-length-6 c = search needs
-
-returns-3 : tie.Need-returns-3
-returns-3 c = search needs
+returns-2 : tie.Need-returns-2
+returns-2 c =
+    let called = c .before .before .before .before .before .before .before .before in
+    answers-listed _ _ _ _ _ _ (enough (called .before .before .before .before .before .before)) (called .list-input .ensures)
 
 pub list-spec : {M : Type 1} → statement M
 list-spec =
     tie.close
     (tie.spec
-    shape-of-requires
-    enum-told
-    slice-aggregate-put-bytes
-    put-bytes-requires
-    enum-told-2
-    slice-aggregate-put-bytes-2
-    put-bytes-requires-2
-    enum-told-3
-    list-book-requires
-    same-length
+    suffice-requires
     returns
+    slice-aggregate-list-input
+    list-input-requires
+    same-length
     same-length-2
-    returns-2
     same-length-3
     same-length-4
-    same-length-5
-    same-length-6
-    returns-3)
+    returns-2)

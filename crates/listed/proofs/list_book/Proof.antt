@@ -1,11 +1,39 @@
--- `listed::list_book` meets its contract.
+-- `listed::list_book` meets its contract: the book's line if it is refused, else those of its run.
 use borrow.Author.Needs.{needs}
+use Prim.Native.Nat.{_+_, _≤_}
 use mathlib.Core.Path.{sym}
+use denote.Ref.{now}
+use lib.ListN.{length}
 use lib.Seq.{length-take-le}
-use Rattle.listed.specs.Listing.{book-refused}
+use Rattle.compiler.specs.Compiles.{Compiles}
+use Rattle.listed.specs.Listing.{planRoom, bookIn, book-refused}
 use Rattle.listed.proofs.Inputs.{whole-full, end-within, book-compiled, compiled-within, put-listed, run-listed}
 use Rattle.listed.proofs.list_book.Statement.{statement}
 use Rattle.listed.proofs.list_book.Tie as tie
+
+-- the function's entry, and where the book's length was read
+abbrev start : tie.After-u16-at → tie.Start
+start c = c .before .before .before .before .before .before
+
+abbrev sized : tie.After-compile → tie.After-u16-at
+sized c = c .before .before .before
+
+-- the book ends within the input
+book-within : (c : tie.After-u16-at) → 2 + c .u16-at .result ≤ length (now (start c .args .input))
+book-within c = end-within _ (start c .pre .0) (c .u16-at .ensures .0)
+
+-- what compiling it says
+made : (c : tie.After-compile)
+    → Compiles (bookIn (now (start (sized c) .args .input))) planRoom (c .compile .result) (c .compile .last .1 .0)
+made c =
+    book-compiled _ (start (sized c) .pre .0) (sized c .u16-at .ensures .0) (start (sized c) .pre .1 .cells) (c .compile .ensures)
+
+-- where it passed, and its plan is within the buffer
+abbrev compiled : tie.Else1 → tie.After-compile
+compiled c = c .before .before .before .before
+
+plan-within : (c : tie.Else1) → compiled c .compile .result .size ≤ length (compiled c .compile .last .1 .0)
+plan-within c = rw (compiled c .compile .kept .1 .0) (compiled-within (compiled c .compile .ensures) (c .if1 .left))
 
 u16-at-requires : tie.Need-u16-at-requires
 u16-at-requires c κs = whole-full _ (c .before .before .before .before .before .pre .0) .two
@@ -20,7 +48,7 @@ part-compile-start : tie.Need-part-compile-start
 part-compile-start c = search needs
 
 part-compile-end : tie.Need-part-compile-end
-part-compile-end c = end-within _ (c .before .before .before .before .before .before .pre .0) (c .u16-at .ensures .0)
+part-compile-end c = book-within c
 
 compile-requires : tie.Need-compile-requires
 compile-requires c κs = search needs
@@ -36,28 +64,25 @@ same-length-2 c = search needs
 
 returns : tie.Need-returns
 returns c =
-    let whole = c .before .before .before .before .before .before .before .before .before .before .before .before .before .before .before .before .before .pre .0 in
-    let made = book-compiled _ whole (c .before .before .before .before .before .before .before .before .before .before .before .u16-at .ensures .0) (c .before .before .before .before .before .before .before .before .before .before .before .before .before .before .before .before .before .pre .1 .cells) (c .before .before .before .before .before .before .before .before .compile .ensures) in
-    put-listed (c .before .before .put-compiled .ensures) (book-refused whole made (c .before .before .before .before .if1 .taken))
+    let put = c .before .before in
+    let refused = put .before .before in
+    let book = refused .before .before .before .before in
+    put-listed (put .put-compiled .ensures) (book-refused (start (sized book) .pre .0) (made book) (refused .if1 .taken))
 
 cast-used : tie.Need-cast-used
 cast-used c = search needs
 
 slice-reshare-prefix-list-run : tie.Need-slice-reshare-prefix-list-run
-slice-reshare-prefix-list-run c =
-    let called = c .before .before .before .before .before .compile in
-    rw (called .kept .1 .0) (compiled-within (called .ensures) (c .before .if1 .left))
+slice-reshare-prefix-list-run c = plan-within (c .before)
 
 slice-aggregate-list-run : tie.Need-slice-aggregate-list-run
-slice-aggregate-list-run c =
-    let called = c .before .before .before .before .before .before .compile in
-    sym (length-take-le _ _ (rw (called .kept .1 .0) (compiled-within (called .ensures) (c .before .before .if1 .left))))
+slice-aggregate-list-run c = sym (length-take-le _ _ (plan-within (c .before .before)))
 
 sub-list-run : tie.Need-sub-list-run
-sub-list-run c = end-within _ (c .before .before .before .before .before .before .before .before .before .before .before .before .before .before .before .pre .0) (c .before .before .before .before .before .before .before .before .before .u16-at .ensures .0)
+sub-list-run c = book-within (sized (compiled (c .before .before)))
 
 part-list-run-start : tie.Need-part-list-run-start
-part-list-run-start c = end-within _ (c .before .before .before .before .before .before .before .before .before .before .before .before .before .before .before .pre .0) (c .before .before .before .before .before .before .before .before .before .u16-at .ensures .0)
+part-list-run-start c = book-within (sized (compiled (c .before .before)))
 
 part-list-run-end : tie.Need-part-list-run-end
 part-list-run-end c = search needs
@@ -79,10 +104,10 @@ same-length-6 c = search needs
 
 returns-2 : tie.Need-returns-2
 returns-2 c =
-    let whole = c .before .before .before .before .before .before .before .before .before .before .before .before .before .before .before .before .before .before .before .before .before .before .before .before .before .before .pre .0 in
-    let size = c .before .before .before .before .before .before .before .before .before .before .before .before .before .before .before .before .before .before .before .before .u16-at .ensures .0 in
-    let made = book-compiled _ whole size (c .before .before .before .before .before .before .before .before .before .before .before .before .before .before .before .before .before .before .before .before .before .before .before .before .before .before .pre .1 .cells) (c .before .before .before .before .before .before .before .before .before .before .before .before .before .before .before .before .before .compile .ensures) in
-    run-listed _ whole size made (c .before .before .before .before .before .before .before .before .before .before .before .before .before .if1 .left) (c .before .before .before .before .before .before .list-run .ensures)
+    let run = c .before .before .before .before .before .before in
+    let passed = run .before .before .before .before .before .before .before in
+    let read = sized (compiled passed) in
+    run-listed _ (start read .pre .0) (read .u16-at .ensures .0) (made (compiled passed)) (passed .if1 .left) (run .list-run .ensures)
 
 pub list-book-spec : {M : Type 1} → statement M
 list-book-spec =

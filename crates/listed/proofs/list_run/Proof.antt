@@ -6,19 +6,24 @@ use Rattle.listed.proofs.Answers.{records-within, read-is}
 use Rattle.listed.proofs.list_run.Statement.{statement}
 use Rattle.listed.proofs.list_run.Tie as tie
 
+-- the function's entry, from the reading
+abbrev start : tie.After-read → tie.Start
+start c = c .before .before .before .before .before .before .before .before
+
 read-requires : tie.Need-read-requires
 read-requires c κs = search needs
 
 put-reading-requires : tie.Need-put-reading-requires
 put-reading-requires c κs =
-    let start = c .before .before .before .before .before .before .before .before .before .before .before .before .before .before in
-    let called = c .before .before .before .before .before .before .read in
-    let kept = called .kept .1 .1 .1 .0 in
+    let called = c .before .before .before .before .before .before in
+    let entered = start called in
+    let kept = called .read .kept .1 .1 .1 .0 in
     record {
       line = omega arith;
-      lines = omega (arith, kept, start .pre .records, start .pre .output);
+      lines = omega (arith, kept, entered .pre .records, entered .pre .output);
       records = λ done.
-          rw kept (records-within (now (start .args .plan)) (now (start .args .run)) (now (start .args .tree)) (called .ensures) done);
+          rw kept
+          (records-within (now (entered .args .plan)) (now (entered .args .run)) (now (entered .args .tree)) (called .read .ensures) done);
     }
 
 same-length : tie.Need-same-length
@@ -32,13 +37,14 @@ same-length-3 c = search needs
 
 returns : tie.Need-returns
 returns c =
-    let start = c .before .before .before .before .before .before .before .before .before .before .before .before .before .before .before .before .before in
+    let put = c .before .before in
+    let called = put .before .before .before .before .before .before .before in
+    let entered = start called in
     let is =
-    read-is (now (start .args .plan)) (now (start .args .run)) (now (start .args .tree))
-    (c .before .before .before .before .before .before .before .before .before .read .ensures)
-    (start .pre .slots)
-    (start .pre .records) in
-    rw (← is) (c .before .before .put-reading .ensures)
+    read-is (now (entered .args .plan)) (now (entered .args .run)) (now (entered .args .tree)) (called .read .ensures)
+    (entered .pre .slots)
+    (entered .pre .records) in
+    rw (← is) (put .put-reading .ensures)
 
 pub list-run-spec : {M : Type 1} → statement M
 list-run-spec =

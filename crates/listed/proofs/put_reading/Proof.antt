@@ -15,19 +15,24 @@ cast-put-accepted : tie.Need-cast-put-accepted
 cast-put-accepted c = search needs
 
 slice-aggregate-put-accepted : tie.Need-slice-aggregate-put-accepted
-slice-aggregate-put-accepted c = sym (length-take-le _ _ (c .before .before .before .before .before .before .before .before .pre .records (c .before .before .before .before .if1 .taken)))
+slice-aggregate-put-accepted c =
+    let test = c .before .before .before .before in
+    sym (length-take-le _ _ (test .before .before .before .before .pre .records (test .if1 .taken)))
 
 put-accepted-requires : tie.Need-put-accepted-requires
 put-accepted-requires c κs =
-    let start = c .before .before .before .before .before .before .before .before in
-    let within = start .pre .records (c .before .before .before .before .if1 .taken) in
+    let test = c .before .before .before .before in
+    let start = test .before .before .before .before in
+    let within = start .pre .records (test .if1 .taken) in
     omega (arith, length-take-le (start .args .answer .records) (now (start .args .tree)) within, within, start .pre .lines)
 
 same-length : tie.Need-same-length
 same-length c = search needs
 
 returns : tie.Need-returns
-returns c = put-if-accepted _ _ _ (c .before .before .before .before .before .before .before .if1 .taken) (c .before .before .put-accepted .ensures)
+returns c =
+    let put = c .before .before in
+    put-if-accepted _ _ _ (put .before .before .before .before .before .if1 .taken) (put .put-accepted .ensures)
 
 cast-put-refused : tie.Need-cast-put-refused
 cast-put-refused c = search needs
@@ -45,7 +50,10 @@ same-length-2 : tie.Need-same-length-2
 same-length-2 c = search needs
 
 returns-2 : tie.Need-returns-2
-returns-2 c = put-if-refused _ _ _ (c .before .before .before .before .before .before .before .if1 .left) (c .before .before .before .third-of .ensures) (c .before .before .put-refused .ensures)
+returns-2 c =
+    let put = c .before .before in
+    let third = put .before in
+    put-if-refused _ _ _ (third .before .before .before .before .if1 .left) (third .third-of .ensures) (put .put-refused .ensures)
 
 pub put-reading-spec : {M : Type 1} → statement M
 put-reading-spec =

@@ -2,26 +2,28 @@
 use mathlib.Core.Path.{ap, _∙_}
 use native.Mathlib.Omega.{arith}
 use borrow.Author.Needs.{needs}
-use lib.ListN.{length}
-use Rattle.reader.specs.declared.Reading.{Reading}
-use Rattle.reader.specs.Machine.{After, after, ended}
-use Rattle.reader.specs.Ready.{onSlots}
-use Rattle.reader.proofs.Rows.{last-node, refusal-is}
-use Rattle.reader.proofs.Runs.{finish-few}
-use Rattle.reader.proofs.Goes.{close-refused, close-done}
+use Rattle.plan.specs.Form.{planFrom}
+use Rattle.plan.proofs.Runnable.{some-node}
+use Rattle.reader.specs.Machine.{After, after}
+use Rattle.reader.proofs.Rows.{last-node}
+use Rattle.reader.proofs.Bounds.{finish-few}
+use Rattle.reader.proofs.RunUnderWay.{close-refused, close-done}
 use Rattle.reader.proofs.close.Statement.{statement}
 use Rattle.reader.proofs.close.Tie as tie
 
--- the function's entry, and where the part held last is read
-abbrev start : tie.After-finish → tie.Start
-start v = v .before .before .before .before .before .before
+-- the parts taken off, the part held last before that, and the function's entry
+abbrev Off : Type 0
+Off = tie.After-finish
 
-abbrev last-read : tie.After-finish → tie.After-last-part
+abbrev last-read : Off → tie.After-last-part
 last-read v = v .before .before
 
--- how the machine stands when the parts are taken off
-abbrev stood : tie.After-finish → After
-stood c = after (c .finish .result) (start c .args .held .now) (c .finish .last .1 .1 .1 .1 .1 .1 .0)
+abbrev start : Off → tie.Start
+start v = last-read v .before .before .before .before
+
+-- how the machine stands then
+abbrev stood : Off → After
+stood v = after (v .finish .result) (start v .args .held .now) (v .finish .last .1 .1 .1 .1 .1 .1 .0)
 
 last-part-requires : tie.Need-last-part-requires
 last-part-requires c κs = search needs
@@ -29,36 +31,45 @@ last-part-requires c κs = search needs
 finish-requires : tie.Need-finish-requires
 finish-requires c κs = search needs
 
+-- a part is not nullable
 refuse-requires : tie.Need-refuse-requires
 refuse-requires c κs =
     let v = c .before .before .before .before in
-    let pre = start v .pre .0 in
-    (pre .runs, rw (last-read v .last-part .ensures) (last-node _ (pre .runs .some-node) (pre .parts)), start v .pre .1)
+    let ready = start v .pre .0 in
+    (ready .runs, rw (last-read v .last-part .ensures) (last-node _ (some-node (ready .runs)) (ready .parts)), start v .pre .1)
 
 same-length : tie.Need-same-length
 same-length c = search needs
 
 returns : tie.Need-returns
 returns c =
-    let v = c .before .before .before .before .before in
-    ap (λ (r : Reading). ended r (start v .args .held .now) (stood v .tree))
-    (refusal-is _ _ _ (length (start v .args .held .now)) _ _ _ _ _ (c .refuse .ensures) (last-read v .last-part .ensures))
-    ∙ close-refused _ _ _ _ _ _ (stood v) (v .finish .ensures) (c .before .if1 .taken)
+    let refused = c .before in
+    let v = refused .before .before .before .before in
+    close-refused _ _ _ _ _ _ (stood v) (v .finish .ensures) (refused .if1 .taken) (c .refuse .ensures) (last-read v .last-part .ensures)
 
+-- all are
 cast-t14 : tie.Need-cast-t14
 cast-t14 c = search needs
 
 cast-t15 : tie.Need-cast-t15
 cast-t15 c =
     let v = c .before .before .before .before .before in
-    let args = start v .args in
-    omega (arith, finish-few (onSlots (args .plan .now) (args .nodes) (args .kinds) (length (args .held .now))) (args .count) (args .written) (args .held .now) (args .tree .now), ap (λ (s : After). s .spot .written) (v .finish .ensures), start v .pre .0 .few-records)
+    let a = start v .args in
+    omega (
+      arith,
+      finish-few (planFrom (a .plan .now) (a .nodes) (a .kinds)) (a .count) (a .written) (a .held .now) (a .tree .now),
+      ap (λ (s : After). s .spot .written) (v .finish .ensures),
+      start v .pre .0 .few-records,
+    )
 
 same-length-2 : tie.Need-same-length-2
 same-length-2 c = search needs
 
 returns-2 : tie.Need-returns-2
-returns-2 c = close-done _ _ _ _ _ _ (stood (c .before .before .before .before .before)) (c .before .before .before .before .before .finish .ensures) (c .before .if1 .left)
+returns-2 c =
+    let accepted = c .before in
+    let v = accepted .before .before .before .before in
+    close-done _ _ _ _ _ _ (stood v) (v .finish .ensures) (accepted .if1 .left)
 
 pub close-spec : {M : Type 1} → statement M
 close-spec =

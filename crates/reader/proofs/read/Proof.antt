@@ -19,9 +19,11 @@ same-length-2 c = search needs
 
 returns : tie.Need-returns
 returns c =
+    let cleared = c .before .before in
+    let v = cleared .before .before .before .before .before .before in
     record {
-      outcome-is = c .before .before .before .before .before .before .before .before .answer .ensures;
-      slots-zero = c .before .before .clear-records .ensures ∙ ap zeros (c .before .before .before .before .before .before .before .before .answer .kept .1 .1 .0);
+      outcome-is = v .answer .ensures;
+      slots-zero = cleared .clear-records .ensures ∙ ap zeros (v .answer .kept .1 .1 .0);
     }
 
 pub read-spec : {M : Type 1} → statement M

@@ -13,7 +13,9 @@ expected-at-requires : tie.Need-expected-at-requires
 expected-at-requires c κs = search needs
 
 returns : tie.Need-returns
-returns c = ap (λ (kinds : ℕ). answered (c .before .before .args .number) (c .before .before .args .at) 0 kinds) (c .expected-at .ensures)
+returns c =
+    let a = c .before .before .args in
+    ap (λ (kinds : ℕ). answered (a .number) (a .at) 0 kinds) (c .expected-at .ensures)
 
 pub refuse-spec : {M : Type 1} → statement M
 refuse-spec = tie.close (tie.spec cast-t8 expected-at-requires returns)

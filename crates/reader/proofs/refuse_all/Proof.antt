@@ -16,7 +16,9 @@ same-length c = search needs
 
 returns : tie.Need-returns
 returns c =
-    ap (λ (l : List ℕ). outcome (answered (c .before .before .before .before .before .args .number) (c .before .before .before .before .before .args .place) 0 0) l) (c .before .before .clear-records .ensures)
+    let cleared = c .before .before in
+    let a = cleared .before .before .before .args in
+    ap (λ (l : List ℕ). outcome (answered (a .number) (a .place) 0 0) l) (cleared .clear-records .ensures)
 
 pub refuse-all-spec : {M : Type 1} → statement M
 refuse-all-spec = tie.close (tie.spec clear-records-requires same-length returns)

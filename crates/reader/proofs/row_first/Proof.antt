@@ -6,19 +6,32 @@ use native.Mathlib.Nat.{pow-suc}
 use native.Mathlib.Omega.{arith}
 use borrow.Author.Needs.{needs}
 use lib.Pow.{pow-mono}
-use Rattle.plan.specs.Running.{rowFirst}
+use Rattle.running.specs.Running.{Plan, rowFirst}
 use Rattle.plan.specs.Form.{planFrom}
-use Rattle.reader.specs.Ready.{onSlots}
+use Rattle.plan.proofs.Runnable.{few-kinds}
 use Rattle.reader.proofs.Rows.{row-small, row-without, row-with}
 use Rattle.reader.proofs.row_first.Statement.{statement}
 use Rattle.reader.proofs.row_first.Tie as tie
 
 abbrev Inv-loop : tie.InvT-loop
-Inv-loop plan nodes kinds node first₀ kind₀ first kind =
-    (kind ≤ kinds) × (first ≡ rowFirst (onSlots plan nodes kinds 0) node kind)
+Inv-loop plan nodes kinds node first₀ kind₀ first kind = (kind ≤ kinds) × (first ≡ rowFirst (planFrom plan nodes kinds) node kind)
 
 abbrev μ-loop : tie.MeasureT-loop
 μ-loop plan nodes kinds node first₀ kind₀ first kind = kinds - kind
+
+-- a turn, the function's entry before it, and the plan
+abbrev Turn : Type 0
+Turn = tie.In-loop Inv-loop μ-loop
+
+abbrev start : Turn → tie.Start Inv-loop μ-loop
+start t = t .before .before .before
+
+abbrev plan-of : Turn → Plan
+plan-of t = planFrom (start t .args .plan .now) (start t .args .nodes) (start t .args .kinds)
+
+-- its kind is one of 64
+kind-small : (t : Turn) → suc (t .before .loop .kind) ≤ 64
+kind-small t = omega (arith, t .loop-test .taken, few-kinds (start t .pre .0))
 
 loop-holds : tie.Need-loop-holds Inv-loop μ-loop
 unfolding rowFirst
@@ -28,14 +41,20 @@ cell-at-requires : tie.Need-cell-at-requires Inv-loop μ-loop
 cell-at-requires c κs = search needs
 
 single-requires : tie.Need-single-requires Inv-loop μ-loop
-single-requires c κs = search needs
+single-requires c κs = omega (arith, kind-small (c .before .before))
 
 add-first : tie.Need-add-first Inv-loop μ-loop
 add-first c =
-    let kind = c .before .before .before .before .loop .kind in
-    let args = c .before .before .before .before .before .before .args in
-    let under : suc kind ≤ 64 = omega (arith, c .before .before .before .loop-test .taken, c .before .before .before .before .before .before .pre .0 .few-kinds) in
-    omega (arith, c .before .before .before .before .loop .inv .1, row-small (onSlots (args .plan .now) (args .nodes) (args .kinds) 0) (args .node) kind, c .single .ensures, pow-suc 2 kind, pow-mono under)
+    let t = c .before .before .before in
+    let kind = t .before .loop .kind in
+    omega (
+      arith,
+      t .before .loop .inv .1,
+      row-small (plan-of t) (start t .args .node) kind,
+      c .single .ensures,
+      pow-suc 2 kind,
+      pow-mono (kind-small t),
+    )
 
 add-kind : tie.Need-add-kind Inv-loop μ-loop
 add-kind c = search needs
@@ -46,21 +65,25 @@ loop-less c = search needs
 loop-again : tie.Need-loop-again Inv-loop μ-loop
 unfolding planFrom
 loop-again c =
-    let kind = c .before .before .before .loop .kind in
-    let args = c .before .before .before .before .before .args in
-    let plan = onSlots (args .plan .now) (args .nodes) (args .kinds) 0 in (
-      omega (arith, c .before .before .loop-test .taken),
+    let v = c .before in
+    let t = v .before in
+    let kind = t .before .loop .kind in
+    let node = start t .args .node in
+    let first-is = t .before .loop .inv .1 in
+    let cell-is = v .cell-at .ensures .0 in (
+      omega (arith, t .loop-test .taken),
       ⊎-elim
-          (λ w. omega (arith, w .2, w .1 .ensures, c .before .before .before .loop .inv .1, row-with plan (args .node) kind (λ is. w .0 .taken (c .before .cell-at .ensures .0 ∙ is))))
-          (λ w. omega (arith, w .1, c .before .before .before .loop .inv .1, row-without plan (args .node) kind (sym (c .before .cell-at .ensures .0) ∙ w .0 .left)))
+          (λ w. omega (arith, w .2, w .1 .ensures, first-is, row-with (plan-of t) node kind (λ is. w .0 .taken (cell-is ∙ is))))
+          (λ w. omega (arith, w .1, first-is, row-without (plan-of t) node kind (sym cell-is ∙ w .0 .left)))
           (c .if1 .came),
     )
 
 returns : tie.Need-returns Inv-loop μ-loop
 returns c =
-    let args = c .before .before .before .args in
-    let all : c .before .loop .kind ≡ args .kinds = omega (arith, c .before .loop .inv .0, c .loop-test .left) in
-    c .before .loop .inv .1 ∙ ap (λ (k : ℕ). rowFirst (onSlots (args .plan .now) (args .nodes) (args .kinds) 0) (args .node) k) all
+    let a = c .before .before .before .args in
+    let l = c .before .loop in
+    let all : l .kind ≡ a .kinds = omega (arith, l .inv .0, c .loop-test .left) in
+    l .inv .1 ∙ ap (rowFirst (planFrom (a .plan .now) (a .nodes) (a .kinds)) (a .node)) all
 
 pub row-first-spec : {M : Type 1} → statement M
 row-first-spec =

@@ -1,45 +1,32 @@
 -- `reader::run_plan` meets its contract: the run's end, settled, is the outcome of the run.
-use mathlib.Core.Path.{_≡_, _∙_}
-use Prim.Native.Nat.{_≤_}
+use mathlib.Core.Path.{_∙_}
 use native.Mathlib.Omega.{arith}
 use borrow.Author.Needs.{needs}
-use lib.Dec.{ltb}
-use lib.ListN.{length, set, length-set}
-use Rattle.plan.specs.Form.{planOf, planCount, planKinds, planStart}
-use Rattle.reader.specs.Machine.{ended, readsOf}
-use Rattle.reader.proofs.Plans.{runnable}
+use lib.ListN.{length-set}
+use Rattle.plan.proofs.Runnable.{settings-inside}
+use Rattle.reader.specs.Machine.{ended}
 use Rattle.reader.proofs.Settles.{started, run-same}
 use Rattle.reader.proofs.run_plan.Statement.{statement}
 use Rattle.reader.proofs.run_plan.Tie as tie
 
--- the contents and settings stand in the plan
-long : (c : tie.Start) → 24 ≤ length (c .args .plan .now)
-long c = omega (arith, runnable (c .args .plan .now) (c .pre .0) .size)
+-- the events run, the plan's kinds, count and start read before them, and the function's entry
+abbrev Run : Type 0
+Run = tie.After-events
 
--- the events leave the slots as many, and end as the run does
-held-kept : (v : tie.After-events) → length (v .events .last .1 .1 .1 .1 .0) ≡ length (v .before .before .before .before .before .before .before .before .before .before .args .held .now)
-held-kept v = v .events .kept .1 .1 .1 .1 .0 ∙ length-set (v .before .before .before .before .before .before .before .before .before .before .args .held .now) 0 (v .before .before .before .u16-at3 .result)
+abbrev kinds-read : Run → tie.After-plan-kinds
+kinds-read v = v .before .before .before
 
-ended-is : (v : tie.After-events)
-    → ended (v .events .result) (v .events .last .1 .1 .1 .1 .0) (v .events .last .1 .1 .1 .1 .1 .0)
-    ≡ readsOf (planOf (v .before .before .before .before .before .before .before .before .before .before .args .plan .now) (λ n. ltb n (length (v .before .before .before .before .before .before .before .before .before .before .args .held .now)))) 0 (v .before .before .before .before .before .before .before .before .before .before .args .run .now) 1 0
-    (set (v .before .before .before .before .before .before .before .before .before .before .args .held .now) 0 (planStart (v .before .before .before .before .before .before .before .before .before .before .args .plan .now))) (v .before .before .before .before .before .before .before .before .before .before .args .tree .now)
-unfolding planCount planKinds planStart
-ended-is v =
-    rw (v .before .before .before .before .before .u16-at .ensures .0, v .before .before .before .before .u16-at2 .ensures .0, v .before .before .before .u16-at3 .ensures .0, length-set (v .before .before .before .before .before .before .before .before .before .before .args .held .now) 0) at
-    (v .events .ensures)
+abbrev count-read : Run → tie.After-plan-count
+count-read v = kinds-read v .before
 
-u16-at-requires : tie.Need-u16-at-requires
-u16-at-requires c κs = omega (arith, long (c .before .before .before .before))
+abbrev start-read : Run → tie.After-plan-start
+start-read v = count-read v .before
 
-u16-at-requires-2 : tie.Need-u16-at-requires-2
-u16-at-requires-2 c κs = omega (arith, long (c .before .before .before .before .before))
+abbrev start : Run → tie.Start
+start v = start-read v .before .before .before .before .before
 
-add-u16-at : tie.Need-add-u16-at
-add-u16-at c = search needs
-
-u16-at-requires-3 : tie.Need-u16-at-requires-3
-u16-at-requires-3 c κs = omega (arith, long (c .before .before .before .before .before .before))
+plan-start-requires : tie.Need-plan-start-requires
+plan-start-requires c κs = settings-inside _ (c .before .before .before .before .pre .0)
 
 cast-held : tie.Need-cast-held
 cast-held c = search needs
@@ -47,14 +34,24 @@ cast-held c = search needs
 slice-write-held : tie.Need-slice-write-held
 slice-write-held c = search needs
 
+plan-count-requires : tie.Need-plan-count-requires
+plan-count-requires c κs = settings-inside _ (c .before .before .before .before .before .pre .0)
+
+plan-kinds-requires : tie.Need-plan-kinds-requires
+plan-kinds-requires c κs = settings-inside _ (c .before .before .before .before .before .before .pre .0)
+
 events-requires : tie.Need-events-requires
-unfolding planCount planKinds planStart
 events-requires c κs =
-    let args = c .before .before .before .before .before .before .before .before .before .args in
-    let pre = c .before .before .before .before .before .before .before .before .before .pre in (
+    let kinds = c .before .before in
+    let count = kinds .before in
+    let first = count .before in
+    let a = first .before .before .before .before .before .args in
+    let pre = first .before .before .before .before .before .pre in (
       record {
-        runs = rw (c .before .before .before .before .u16-at .ensures .0, c .before .before .before .u16-at2 .ensures .0) (runnable (args .plan .now) (pre .0));
-        parts = rw (c .before .before .before .before .u16-at .ensures .0, c .before .before .u16-at3 .ensures .0, length-set (args .held .now) 0) (started (args .plan .now) (args .run .now) (args .held .now) (args .tree .now) (pre .0) (pre .2));
+        runs = record { good = pre .0; count-is = count .plan-count .ensures .0; kinds-is = kinds .plan-kinds .ensures .0 };
+        parts =
+            rw (count .plan-count .ensures .0, first .plan-start .ensures .0, length-set (a .held .now) 0)
+            (started (a .plan .now) (a .run .now) (a .held .now) (a .tree .now) (pre .0) (pre .2));
         few-records = omega arith;
       },
       pre .1,
@@ -64,30 +61,33 @@ settle-requires : tie.Need-settle-requires
 settle-requires c κs = search needs
 
 same-length : tie.Need-same-length
-same-length c = held-kept (c .before .before .before .before .before .before .before .before)
+same-length c =
+    let v = c .before .before .before .before .before .before .before .before in
+    v .events .kept .1 .1 .1 .1 .0 ∙ length-set (start v .args .held .now) 0 (start-read v .plan-start .result)
 
 same-length-2 : tie.Need-same-length-2
 same-length-2 c = search needs
 
 returns : tie.Need-returns
 returns c =
-    let args = c .before .before .before .before .before .before .before .before .before .before .before .before .before .before .before .before .before .before .args in
-    let pre = c .before .before .before .before .before .before .before .before .before .before .before .before .before .before .before .before .before .before .pre in
-    let v = c .before .before .before .before .before .before .before .before in
-    c .before .before .settle .ensures
-    ∙ run-same (args .plan .now) (args .run .now) (args .held .now) (args .tree .now) (pre .0) (pre .2)
-    (ended (v .events .result) (v .events .last .1 .1 .1 .1 .0) (v .events .last .1 .1 .1 .1 .1 .0)) (ended-is v) (v .events .kept .1 .1 .1 .1 .1 .0)
+    let settled = c .before .before in
+    let v = settled .before .before .before .before .before .before in
+    let a = start v .args in
+    settled .settle .ensures
+    ∙ run-same (a .plan .now) (a .run .now) (a .held .now) (a .tree .now) (start v .pre .0) (start v .pre .2)
+    (count-read v .plan-count .ensures .0) (kinds-read v .plan-kinds .ensures .0) (start-read v .plan-start .ensures .0)
+    (ended (v .events .result) (v .events .last .1 .1 .1 .1 .0) (v .events .last .1 .1 .1 .1 .1 .0))
+    (v .events .ensures) (v .events .kept .1 .1 .1 .1 .1 .0)
 
 pub run-plan-spec : {M : Type 1} → statement M
 run-plan-spec =
     tie.close
     (tie.spec
-    u16-at-requires
-    u16-at-requires-2
-    add-u16-at
-    u16-at-requires-3
+    plan-start-requires
     cast-held
     slice-write-held
+    plan-count-requires
+    plan-kinds-requires
     events-requires
     settle-requires
     same-length

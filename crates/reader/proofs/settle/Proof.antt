@@ -1,14 +1,10 @@
 -- `reader::settle` meets its contract, by each of its tests.
 use borrow.Author.Needs.{needs}
-use mathlib.Core.Path.{sym, ap, _∙_}
-use mathlib.Core.List.{List}
-use Prim.Native.Nat.{ℕ}
-use Rattle.reader.specs.Numbers.{answered}
-use Rattle.reader.specs.Reads.{outcome}
-use Rattle.reader.proofs.Settles.{rest-cleared, settled-refused, settled-full, settled-fits}
+use Rattle.reader.proofs.Settles.{settled-refused, settled-full, settled-fits}
 use Rattle.reader.proofs.settle.Statement.{statement}
 use Rattle.reader.proofs.settle.Tie as tie
 
+-- a refusal
 clear-records-requires : tie.Need-clear-records-requires
 clear-records-requires c κs = search needs
 
@@ -17,9 +13,11 @@ same-length c = search needs
 
 returns : tie.Need-returns
 returns c =
-    ap (λ (l : List ℕ). outcome (c .before .before .before .before .before .before .before .args .answer) l) (c .before .before .clear-records .ensures)
-    ∙ sym (settled-refused _ _ (c .before .before .before .before .if1 .taken))
+    let cleared = c .before .before in
+    let refused = cleared .before .before in
+    settled-refused _ _ (refused .if1 .taken) (cleared .clear-records .ensures)
 
+-- more records than room
 cast-records : tie.Need-cast-records
 cast-records c = search needs
 
@@ -31,9 +29,12 @@ same-length-2 c = search needs
 
 returns-2 : tie.Need-returns-2
 returns-2 c =
-    ap (λ (l : List ℕ). outcome (answered 16 0 (c .before .before .before .before .before .before .before .before .before .args .answer .records) 0) l) (c .before .before .clear-records2 .ensures)
-    ∙ sym (settled-full _ _ (c .before .before .before .before .before .before .if1 .left) (c .before .before .before .before .if2 .taken))
+    let cleared = c .before .before in
+    let full = cleared .before .before in
+    let accepted = full .before .before in
+    settled-full _ _ (accepted .if1 .left) (full .if2 .taken) (cleared .clear-records2 .ensures)
 
+-- room for the records
 mul-clear-records : tie.Need-mul-clear-records
 mul-clear-records c = search needs
 
@@ -54,8 +55,10 @@ same-length-3 c = search needs
 
 returns-3 : tie.Need-returns-3
 returns-3 c =
-    ap (λ (l : List ℕ). outcome (c .before .before .before .before .before .before .before .before .before .args .answer) l) (rest-cleared _ _ _ (c .before .before .before .before .if2 .left) (c .before .before .clear-records3 .ensures))
-    ∙ sym (settled-fits _ _ (c .before .before .before .before .before .before .if1 .left) (c .before .before .before .before .if2 .left))
+    let cleared = c .before .before in
+    let fits = cleared .before .before in
+    let accepted = fits .before .before in
+    settled-fits _ _ (accepted .if1 .left) (fits .if2 .left) (cleared .clear-records3 .ensures)
 
 pub settle-spec : {M : Type 1} → statement M
 settle-spec =

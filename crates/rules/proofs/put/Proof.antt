@@ -33,11 +33,11 @@ same-length c = search needs
 
 returns : tie.Need-returns
 returns c =
-    facts-put (c .before .before .before .before .before .before .before .before .before .before .before .before .before .before .before .before .before .pre)
-    (c .before .before .before .before .before .before .before .before .before .before .before .before .before .before .grow .ensures)
-    (c .before .before .before .before .before .before .before .before .before .before .grow2 .ensures)
-    (c .before .before .before .before .before .before .grow3 .ensures)
-    (c .before .before .grow4 .ensures)
+    let fourth = c .before .before in
+    let third = fourth .before .before .before .before in
+    let second = third .before .before .before .before in
+    let first = second .before .before .before .before in
+    facts-put (first .before .before .before .pre) (first .grow .ensures) (second .grow2 .ensures) (third .grow3 .ensures) (fourth .grow4 .ensures)
 
 pub put-spec : {M : Type 1} → statement M
 put-spec =

@@ -2,8 +2,7 @@
 use mathlib.Core.Path.{sym, _∙_}
 use mathlib.Core.Bool.{true≢false}
 use borrow.Author.Needs.{needs}
-use Rattle.kinds.proofs.Laws.{has?-is}
-use Rattle.rules.proofs.Spreading.{none-spread}
+use Rattle.rules.proofs.Spreading.{marked-is, none-spread}
 use Rattle.rules.proofs.spread.Statement.{statement}
 use Rattle.rules.proofs.spread.Tie as tie
 
@@ -13,7 +12,7 @@ is-marked-requires c κs = search needs
 mark-children-requires : tie.Need-mark-children-requires
 mark-children-requires c κs =
     let pre = c .before .before .before .before .before .before .pre in
-    (pre .0, (pre .1 .0, (pre .1 .1, record { mark = has?-is _ _ .0 (sym (c .before .before .is-marked .ensures) ∙ c .before .if1 .taken) })))
+    (pre .0, (pre .1 .0, (pre .1 .1, marked-is _ _ .0 (sym (c .before .before .is-marked .ensures) ∙ c .before .if1 .taken))))
 
 same-length : tie.Need-same-length
 same-length c = search needs
@@ -25,7 +24,7 @@ same-length-2 : tie.Need-same-length-2
 same-length-2 c = search needs
 
 returns-2 : tie.Need-returns-2
-returns-2 c = none-spread (λ marked. true≢false (sym (has?-is _ _ .1 (marked .mark)) ∙ sym (c .before .is-marked .ensures) ∙ c .if1 .left))
+returns-2 c = none-spread (λ marked. true≢false (sym (marked-is _ _ .1 marked) ∙ sym (c .before .is-marked .ensures) ∙ c .if1 .left))
 
 pub spread-spec : {M : Type 1} → statement M
 spread-spec =

@@ -1,0 +1,49 @@
+-- Demands 1 and 2, put together from the laws of the compiler and the reader.
+use Prim.Native.Nat.{ℕ, _≤_}
+use native.Mathlib.Omega.{arith}
+use mathlib.Core.Path.{_≡_, ap}
+use mathlib.Core.List.{List}
+use lib.ListN.{length}
+use Rattle.book.specs.Form.{DONE, bookOf}
+use Rattle.book.proofs.Decoded.{formed, well-formed}
+use Rattle.plan.specs.Form.{planFrom}
+use Rattle.plan.proofs.Laws.{size-small}
+use Rattle.compiler.specs.declared.Compiled.{Compiled}
+use Rattle.compiler.specs.Compiles.{Compiles, sizeOf}
+use Rattle.compiler.proofs.Unique.{marks-unique}
+use Rattle.compiler.proofs.Promise.{answer-listed, size-most, room-kept, refused-clear, passed, passed-plan, passed-cell, passed-last}
+use Rattle.reader.specs.Reads.{Outcome, readOf}
+use Rattle.reader.proofs.Answers.{read-told, number-listed, tree-length, refused-zero, records-counted, records-bounded}
+use Rattle.reader.proofs.Settles.{read-slotless}
+use Rattle.promises.specs.Promises.{CompileAnswers, ReadAnswers, PlanByRules}
+
+pub compiled-answers : {bytes : List ℕ} {room : ℕ} {a : Compiled} {plan : List ℕ} → Compiles bytes room a plan → CompileAnswers room a plan
+compiled-answers compiled =
+    record { listed = answer-listed compiled; most = size-most compiled; whole = room-kept compiled; refused-zero = refused-clear compiled }
+
+pub read-answers : (plan run : List ℕ) (slots room : ℕ)
+    → ReadAnswers plan run slots room (readOf plan run slots room .reading) (readOf plan run slots room .tree)
+unfolding planFrom
+read-answers plan run slots room =
+    let told = read-told plan run slots room in
+    record {
+      listed = number-listed told;
+      whole = tree-length told;
+      refused-zero = refused-zero told;
+      counted = records-counted told;
+      few-records = records-bounded told;
+      no-slot = λ none good short. ap (λ (o : Outcome). o .reading) (read-slotless plan run slots room good short none);
+    }
+
+pub by-rules : {bytes : List ℕ} {room : ℕ} {a : Compiled} {plan : List ℕ} → Compiles bytes room a plan → a .number ≡ DONE
+    → PlanByRules bytes room plan
+by-rules compiled is =
+    let known = passed compiled is in
+    record {
+      marks = known .marks;
+      marked = known .marked;
+      only = λ other marked. marks-unique marked (known .marked);
+      plan-is = known .plan-is;
+      cell-is = passed-cell compiled is (known .marked);
+      mark-is = passed-last compiled is (known .marked);
+    }

@@ -1,0 +1,6 @@
+pub mod Agrees
+pub mod Expected
+pub mod Limits
+pub mod Longer
+pub mod Records
+pub mod Slots

@@ -1,0 +1,1 @@
+// Running a plan: no code.

@@ -1,0 +1,76 @@
+-- Each test of judging, and the verdict that it gives.
+use Prim.Native.Nat.{ℕ, _<_, _≤_}
+use native.Mathlib.Omega.{arith}
+use mathlib.Core.Path.{_≡_, sym, _∙_, subst, subst₂}
+use mathlib.Core.Bool.{true, false, true≢false}
+use mathlib.Core.List.{List}
+use mathlib.Core.Logic.{_↔_, _≢_}
+use Rattle.kinds.specs.Kinds.{Has, has?}
+use Rattle.kinds.proofs.Laws.{has?-is}
+use Rattle.book.specs.declared.Node.{Node}
+use Rattle.book.specs.declared.Judged.{Judged}
+use Rattle.book.specs.Book.{Book, WellFormed}
+use Rattle.book.specs.Form.{DONE, formOf, bookOf}
+use Rattle.grammar.specs.Rules.{Productive, Reach}
+use Rattle.grammar.specs.Passing.{Fruitful}
+use Rattle.rules.specs.Facts.{factsAt}
+use Rattle.rules.proofs.Bounds.{reach-below, first-kind}
+use Rattle.verdict.specs.Judges.{BARREN, CONFLICT, Reported, both-nullable, in-both-first, in-snf-and-first, judgement, Judges, malformed, barren, conflict, passes}
+use Rattle.verdict.specs.Conflicts.{Known, Leaves, ConflictAt, LowestConflict}
+use Rattle.verdict.proofs.Books.{book-well-formed}
+
+-- 1 to 4: what the form test says
+pub answered-malformed : {bytes table : List ℕ} {form : Judged}
+    → form ≡ formOf bytes
+    → form .number ≢ DONE
+    → Leaves bytes (judgement (form .number) (form .place) 0) table
+answered-malformed is bad = record { judges = rw is (malformed (rw is at bad)); known = λ done. absurd (bad done) }
+
+-- a kind that is reported is a byte
+reported-small : (book : Book) → WellFormed book → {x : Node} {k : ℕ} → Reported (book .node) x k → k < 256
+reported-small book wf (both-nullable _ _) = omega arith
+reported-small book wf (in-both-first {r = r} _ lowest) = omega (arith, first-kind book wf r (lowest .holds .1), wf .few-kinds)
+reported-small book wf (in-snf-and-first {r = r} lowest) = omega (arith, first-kind book wf r (lowest .holds .1), wf .few-kinds)
+
+module _ {bytes : List ℕ} {count : ℕ} {table : List ℕ} (known : Known bytes count table) where
+  wf : WellFormed (bookOf bytes)
+  wf = book-well-formed (known .good)
+
+  module _ {start : ℕ} (start-is : start ≡ bookOf bytes .start) where
+    pub start-below : start < count
+    start-below = omega (arith, wf .start-below, known .good .count-is)
+
+    fruitful-is : Has (factsAt table start .productive) 0 ↔ Fruitful (bookOf bytes)
+    fruitful-is =
+        subst (λ n. Has (factsAt table start .productive) 0 ↔ Productive (bookOf bytes .node) (bookOf bytes .node n)) start-is
+        (known .facts .productive-is start 0 start-below (omega arith))
+
+    fruitful : has? (factsAt table start .productive) 0 ≡ true → Fruitful (bookOf bytes)
+    fruitful has = fruitful-is .0 (has?-is _ 0 .0 has)
+
+    -- 5: the start is not productive
+    pub answered-barren : has? (factsAt table start .productive) 0 ≡ false → Judges bytes (judgement BARREN start 0)
+    answered-barren none =
+        rw start-is (barren (known .good .form) (λ is. true≢false (sym (has?-is _ 0 .1 (fruitful-is .1 is)) ∙ none)))
+
+    module _ {n : ℕ} (lowest : LowestConflict (bookOf bytes .node) (Reach (bookOf bytes .node) start) count n) where
+      lowest-is : LowestConflict (bookOf bytes .node) (Reach (bookOf bytes .node) (bookOf bytes .start)) (bookOf bytes .count) n
+      lowest-is = subst₂ (λ s c. LowestConflict (bookOf bytes .node) (Reach (bookOf bytes .node) s) c n) start-is (known .good .count-is) lowest
+
+      module _ (below : n < count) {kind : ℕ} (found : ConflictAt (bookOf bytes .node) (bookOf bytes .node n) kind) where
+        kind-reported : Reported (bookOf bytes .node) (bookOf bytes .node n) kind
+        kind-reported = found .some (λ e. found .none e (lowest .conflict below))
+
+        pub kind-small : kind < 256
+        kind-small = reported-small (bookOf bytes) wf kind-reported
+
+        -- 6: the lowest reachable node that has a conflict
+        pub answered-conflict : has? (factsAt table start .productive) 0 ≡ true → Judges bytes (judgement CONFLICT n kind)
+        answered-conflict has =
+            conflict (known .good .form) (fruitful has) (lowest-is .least) (lowest-is .among (omega (arith, known .good .count-is))) kind-reported
+
+      -- 0: no reachable node has a conflict
+      pub answered-passes : has? (factsAt table start .productive) 0 ≡ true → count ≤ n → Judges bytes (judgement DONE 0 0)
+      answered-passes has none =
+          passes (known .good .form) (fruitful has)
+          (λ m reach. lowest-is .least m (omega (arith, reach-below (bookOf bytes) wf reach, known .good .count-is)) reach)

@@ -1,0 +1,58 @@
+-- `verdict::conflict_at` meets its contract: the node is read, and the table has the facts of its left and right.
+use native.Mathlib.Omega.{arith}
+use borrow.Author.Needs.{needs}
+use Rattle.verdict.proofs.Books.{nodes-good}
+use Rattle.verdict.proofs.Reports.{left-in, right-in, conflict-read}
+use Rattle.verdict.proofs.conflict_at.Statement.{statement}
+use Rattle.verdict.proofs.conflict_at.Tie as tie
+
+node-at-requires : tie.Need-node-at-requires
+node-at-requires c κs =
+    let entry = c .before .before in
+    omega (arith, entry .pre .1, nodes-good (entry .pre .0 .good) .within)
+
+left-from-requires : tie.Need-left-from-requires
+left-from-requires c κs = search needs
+
+facts-at-requires : tie.Need-facts-at-requires
+facts-at-requires c κs =
+    let entry = c .before .before .before .before in
+    let known = entry .pre .0 in
+    omega (arith, c .left-from .ensures, left-in known (entry .pre .1) (c .before .node-at .ensures), known .long)
+
+right-from-requires : tie.Need-right-from-requires
+right-from-requires c κs = search needs
+
+facts-at-requires-2 : tie.Need-facts-at-requires-2
+facts-at-requires-2 c κs =
+    let read = c .before .before .before in
+    let entry = read .before .before .before in
+    let known = entry .pre .0 in
+    omega (arith, c .right-from .ensures, right-in known (entry .pre .1) (read .node-at .ensures), known .long)
+
+reported-requires : tie.Need-reported-requires
+reported-requires c κs = search needs
+
+returns : tie.Need-returns
+returns c =
+    let left = c .before .before .before in
+    let read = left .before .before in
+    let entry = read .before .before .before in
+    conflict-read (entry .pre .0) (entry .pre .1) (read .node-at .ensures) (λ i. read .before .shared-slice-known2 .given i .fits)
+    (left .before .left-from .ensures)
+    (left .facts-at .ensures)
+    (c .before .before .right-from .ensures)
+    (c .before .facts-at2 .ensures)
+    (c .reported .ensures)
+
+pub conflict-at-spec : {M : Type 1} → statement M
+conflict-at-spec =
+    tie.close
+    (tie.spec
+    node-at-requires
+    left-from-requires
+    facts-at-requires
+    right-from-requires
+    facts-at-requires-2
+    reported-requires
+    returns)

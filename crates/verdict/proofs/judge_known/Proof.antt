@@ -1,0 +1,110 @@
+-- `verdict::judge_known` meets its contract: each way out is a row of the table of answers. What the tests before it showed stands in the
+-- path to the place.
+use native.Mathlib.Omega.{arith}
+use borrow.Author.Needs.{needs}
+use borrow.Author.Tests.{not-true, not-false}
+use denote.Ref.{now}
+use mathlib.Core.Path.{_≡_, sym, ap, _∙_}
+use Rattle.kinds.specs.Kinds.{has?}
+use Rattle.rules.specs.declared.NodeFacts.{NodeFacts}
+use Rattle.rules.specs.Facts.{factsAt}
+use Rattle.rules.proofs.Growing.{blank-zeros}
+use Rattle.book.specs.Form.{bookOf}
+use Rattle.verdict.proofs.Books.{book-start, book-long, count-small}
+use Rattle.verdict.proofs.Answers.{start-below, answered-barren, kind-small, answered-conflict, answered-passes}
+use Rattle.verdict.proofs.judge_known.Statement.{statement}
+use Rattle.verdict.proofs.judge_known.Tie as tie
+
+-- the start that was read
+start-is : (c : tie.After-u16-at) → c .u16-at .result ≡ bookOf (now (c .before .before .before .args .book)) .start
+start-is c = c .u16-at .ensures .0 ∙ book-start _
+
+-- what the test of the start says of the table
+test-is : (c : tie.After-has)
+    → has? (factsAt (now (c .before .before .before .before .before .args .table)) (c .before .before .u16-at .result) .productive) 0 ≡ c .has .result
+test-is c = sym (c .has .ensures ∙ ap (λ (f : NodeFacts). has? (f .productive) 0) (c .before .facts-at .ensures))
+
+add-u16-at : tie.Need-add-u16-at
+add-u16-at c = search needs
+
+u16-at-requires : tie.Need-u16-at-requires
+u16-at-requires c κs = omega (arith, book-long (c .before .before .pre .good))
+
+facts-at-requires : tie.Need-facts-at-requires
+facts-at-requires c κs =
+    let known = c .before .before .before .pre in
+    omega (arith, start-below known (start-is c), known .long)
+
+has-requires : tie.Need-has-requires
+has-requires c κs = search needs
+
+answered-requires : tie.Need-answered-requires
+answered-requires c κs = search needs
+
+returns : tie.Need-returns
+returns c =
+    let tested = c .before in
+    let read = tested .before .before .before in
+    let known = read .before .before .before .pre in
+    rw (c .answered .ensures) (answered-barren known (start-is read) (test-is (tested .before) ∙ not-true _ (tested .if1 .taken)))
+
+slice-aggregate-lowest-conflict : tie.Need-slice-aggregate-lowest-conflict
+slice-aggregate-lowest-conflict c = search needs
+
+lowest-conflict-requires : tie.Need-lowest-conflict-requires
+lowest-conflict-requires c κs =
+    let read = c .before .before .before .before in
+    (read .before .before .before .pre, (start-is read, blank-zeros 8))
+
+conflict-at-requires : tie.Need-conflict-at-requires
+conflict-at-requires c κs = search needs
+
+answered-requires-2 : tie.Need-answered-requires-2
+answered-requires-2 c κs =
+    let found = c .before .before .before in
+    let read = found .before .before .before .before .before in
+    let known = read .before .before .before .pre in
+    let kind = kind-small known (start-is read) (found .lowest-conflict .ensures) (c .before .if2 .taken) (c .conflict-at .ensures) in
+    omega (arith, c .before .if2 .taken, count-small (known .good), kind)
+
+returns-2 : tie.Need-returns-2
+returns-2 c =
+    let told = c .before in
+    let found = told .before .before .before in
+    let tested = found .before .before in
+    let read = tested .before .before .before in
+    let known = read .before .before .before .pre in
+    rw (c .answered2 .ensures)
+    (answered-conflict known (start-is read) (found .lowest-conflict .ensures) (told .before .if2 .taken) (told .conflict-at .ensures)
+    (test-is (tested .before) ∙ not-false _ (tested .if1 .left)))
+
+answered-requires-3 : tie.Need-answered-requires-3
+answered-requires-3 c κs = search needs
+
+returns-3 : tie.Need-returns-3
+returns-3 c =
+    let found = c .before .before .before in
+    let tested = found .before .before in
+    let read = tested .before .before .before in
+    let known = read .before .before .before .pre in
+    rw (c .answered3 .ensures)
+    (answered-passes known (start-is read) (found .lowest-conflict .ensures) (test-is (tested .before) ∙ not-false _ (tested .if1 .left))
+    (c .before .if2 .left))
+
+pub judge-known-spec : {M : Type 1} → statement M
+judge-known-spec =
+    tie.close
+    (tie.spec
+    add-u16-at
+    u16-at-requires
+    facts-at-requires
+    has-requires
+    answered-requires
+    returns
+    slice-aggregate-lowest-conflict
+    lowest-conflict-requires
+    conflict-at-requires
+    answered-requires-2
+    returns-2
+    answered-requires-3
+    returns-3)

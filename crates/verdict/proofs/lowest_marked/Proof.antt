@@ -1,0 +1,50 @@
+-- `verdict::lowest_marked` meets its contract. The loop's invariant: no marked node passed has a conflict. The measure is what is left of the
+-- count.
+use Prim.Native.Nat.{_-_}
+use borrow.Author.Needs.{needs}
+use Rattle.book.specs.Form.{bookOf}
+use Rattle.rules.specs.Facts.{IsMarked}
+use Rattle.verdict.proofs.Lowest.{NonePassed, passed-none, passed-more, passed-found, passed-all}
+use Rattle.verdict.proofs.lowest_marked.Statement.{statement}
+use Rattle.verdict.proofs.lowest_marked.Tie as tie
+
+abbrev Inv-loop : tie.InvT-loop
+Inv-loop book count table marks n₀ n = NonePassed (bookOf book .node) (IsMarked marks) count n
+
+abbrev μ-loop : tie.MeasureT-loop
+μ-loop book count table marks n₀ n = count - n
+
+loop-holds : tie.Need-loop-holds Inv-loop μ-loop
+loop-holds c = passed-none
+
+conflicting-requires : tie.Need-conflicting-requires Inv-loop μ-loop
+conflicting-requires c κs = search needs
+
+returns : tie.Need-returns Inv-loop μ-loop
+returns c = passed-found (c .before .before .before .loop .inv) (c .before .conflicting .ensures) (c .if1 .taken)
+
+add-n : tie.Need-add-n Inv-loop μ-loop
+add-n c = search needs
+
+loop-less : tie.Need-loop-less Inv-loop μ-loop
+loop-less c = search needs
+
+loop-again : tie.Need-loop-again Inv-loop μ-loop
+loop-again c = passed-more (c .before .before .before .loop .inv) (c .before .before .loop-test .taken) (c .before .conflicting .ensures) (c .if1 .left)
+
+returns-2 : tie.Need-returns-2 Inv-loop μ-loop
+returns-2 c = passed-all (c .before .loop .inv) (c .loop-test .left)
+
+pub lowest-marked-spec : {M : Type 1} → statement M
+lowest-marked-spec =
+    tie.close
+    (tie.spec
+    Inv-loop
+    μ-loop
+    loop-holds
+    conflicting-requires
+    returns
+    add-n
+    loop-less
+    loop-again
+    returns-2)

@@ -1,0 +1,71 @@
+-- What the functions that judge a book answer in turn: the facts in a table, the kind reported at a node, the lowest conflict.
+use Prim.Native.Nat.{ℕ, _≤_, _<_}
+use mathlib.Core.Path.{_≡_}
+use mathlib.Core.Bool.{Bool, true, false, cond}
+use mathlib.Core.Logic.{_≢_}
+use mathlib.Core.List.{List}
+use lib.Dec.{eqb}
+use lib.ListN.{length}
+use Rattle.kinds.specs.Kinds.{inBoth, lowestKind}
+use Rattle.book.specs.declared.Node.{Node}
+use Rattle.book.specs.declared.Node.the-variants.{Fail, Empty, Token, Either, Then, Tagged, Ref}
+use Rattle.book.specs.Form.{DONE, formOf, bookOf}
+use Rattle.grammar.specs.Rules.{Conflict}
+use Rattle.rules.specs.declared.NodeFacts.{NodeFacts}
+use Rattle.rules.specs.Facts.{tableSize, Facts}
+use Rattle.verdict.specs.declared.Verdict.{Verdict}
+use Rattle.verdict.specs.Judges.{BOTH-NULLABLE, Reported, Judges}
+
+-- a book of good form with so many nodes
+pub record GoodBook (bytes : List ℕ) (count : ℕ) : Type 0 where
+  pub form : formOf bytes .number ≡ DONE
+  pub count-is : count ≡ bookOf bytes .count
+
+-- such a book, whose facts stand in a table
+pub record Known (bytes : List ℕ) (count : ℕ) (table : List ℕ) : Type 0 where
+  pub good : GoodBook bytes count
+  pub long : tableSize count ≤ length table
+  pub facts : Facts (bookOf bytes .node) count table
+
+-- what judging leaves: the verdict, and in the table the facts of a book that passes
+pub record Leaves (bytes : List ℕ) (verdict : Verdict) (table : List ℕ) : Type 0 where
+  pub judges : Judges bytes verdict
+  pub known : verdict .number ≡ DONE → Known bytes (bookOf bytes .count) table
+
+-- what is answered for a node without a conflict
+abbrev pub NO-CONFLICT : ℕ
+NO-CONFLICT = 64
+
+-- what is answered at an either: that both sides are nullable, before the lowest kind shared
+pub record EitherReport (both shared answer : ℕ) : Type 0 where
+  pub nullable : both ≢ 0 → answer ≡ BOTH-NULLABLE
+  pub first : both ≡ 0 → answer ≡ lowestKind shared
+
+-- what is reported at a node by the facts of its left and right
+unfoldable pub reportedOf : Node → NodeFacts → NodeFacts → ℕ
+reportedOf Fail left right = NO-CONFLICT
+reportedOf Empty left right = NO-CONFLICT
+reportedOf (Token k) left right = NO-CONFLICT
+reportedOf (Either l r) left right =
+    cond (eqb (inBoth (left .nullable) (right .nullable)) 0) (lowestKind (inBoth (left .first) (right .first))) BOTH-NULLABLE
+reportedOf (Then l r) left right = lowestKind (inBoth (left .snf) (right .first))
+reportedOf (Tagged l t) left right = NO-CONFLICT
+reportedOf (Ref l) left right = NO-CONFLICT
+
+-- the kind reported at a node, or that it has no conflict
+pub record ConflictAt (node : ℕ → Node) (at : Node) (kind : ℕ) : Type 0 where
+  pub some : kind ≢ NO-CONFLICT → Reported node at kind
+  pub none : kind ≡ NO-CONFLICT → Conflict node at → ⊥
+
+-- whether a node is among some and has a conflict
+pub record Conflicting (node : ℕ → Node) (Among : ℕ → Type 0) (n : ℕ) (answer : Bool) : Type 0 where
+  pub among : answer ≡ true → Among n
+  pub conflict : answer ≡ true → Conflict node (node n)
+  pub clear : answer ≡ false → Among n → Conflict node (node n) → ⊥
+
+-- the lowest node among some that has a conflict, the count where none has one
+pub record LowestConflict (node : ℕ → Node) (Among : ℕ → Type 0) (count n : ℕ) : Type 0 where
+  pub within : n ≤ count
+  pub among : n < count → Among n
+  pub conflict : n < count → Conflict node (node n)
+  pub least : (m : ℕ) → m < n → Among m → Conflict node (node m) → ⊥

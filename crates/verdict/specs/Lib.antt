@@ -1,0 +1,2 @@
+pub mod Judges
+pub mod Conflicts

@@ -1,0 +1,164 @@
+// Judging a book: numbers 0 to 6.
+ghost use mathlib.Core.Path.{_≡_};
+ghost use Prim.Native.Nat.{_<_, _≤_, _^_};
+ghost use lib.ListN.{length};
+ghost use Rattle.book.specs.Form.{DONE, countOf, formOf, bookOf};
+ghost use Rattle.grammar.specs.Rules.{Reach};
+ghost use Rattle.rules.specs.Facts.{tableSize, marksSize, IsMarked};
+ghost use Rattle.rules.specs.Growth.{Blank};
+ghost use Rattle.verdict.specs.Judges.{judgement, Judges};
+ghost use Rattle.verdict.specs.Conflicts.{Known, Leaves, EitherReport, reportedOf, ConflictAt, Conflicting, LowestConflict};
+use book::DONE;
+use book::NODES_AT;
+use book::Node;
+use book::SETTINGS_AT;
+use rules::NodeFacts;
+use words::u16_at;
+
+// The answers' numbers, after those of a book's form.
+pub const BARREN: u32 = 5;
+
+pub const CONFLICT: u32 = 6;
+
+// What is answered for a node without a conflict.
+const NO_CONFLICT: usize = 64;
+
+// The kind that is reported where both sides of an either are nullable.
+pub const BOTH_NULLABLE: usize = 255;
+
+// What judging a book answers.
+pub struct Verdict {
+    pub number: u32,
+    pub place: u32,
+    pub kind: u32,
+}
+
+// The verdict with a number, a place and a kind.
+fn answered(number: u32, place: usize, kind: usize) -> Verdict
+    requires { ⌜ (place < 2 ^ 32) × (kind < 2 ^ 32) ⌝ }
+    ensures { λ r. ⌜ r ≡ judgement number place kind ⌝ }
+{
+    Verdict {
+        number,
+        place: place as u32,
+        kind: kind as u32,
+    }
+}
+
+// What is reported at an either, where both sides are nullable before the lowest kind shared.
+fn either_report(both: u64, shared: u64) -> usize
+    ensures { λ r. ⌜ EitherReport both shared r ⌝ }
+{
+    if both == 0 {
+        kinds::lowest(shared)
+    } else {
+        BOTH_NULLABLE
+    }
+}
+
+// What is reported at a node by the facts of its left and right.
+fn reported(node: Node, left: NodeFacts, right: NodeFacts) -> usize
+    ensures { λ r. ⌜ r ≡ reportedOf node left right ⌝ }
+{
+    match node {
+        Node::Fail => NO_CONFLICT,
+        Node::Empty => NO_CONFLICT,
+        Node::Token(_) => NO_CONFLICT,
+        Node::Either(_, _) => {
+            either_report(left.nullable & right.nullable, left.first & right.first)
+        }
+        Node::Then(_, _) => kinds::lowest(left.snf & right.first),
+        Node::Tagged(_, _) => NO_CONFLICT,
+        Node::Ref(_) => NO_CONFLICT,
+    }
+}
+
+// The kind reported at a node, or that it has no conflict.
+fn conflict_at(book: &[u8], count: usize, n: usize, table: &[u64]) -> usize
+    requires { ⌜ Known (now book) count (now table) ⌝ }
+    requires { ⌜ n < count ⌝ }
+    ensures { λ r. ⌜ ConflictAt (bookOf (now (book .entry)) .node) (bookOf (now (book .entry)) .node n) r ⌝ }
+{
+    let node = book::node_at(book, NODES_AT, n);
+    let left = rules::facts_at(table, rules::left_from(n, node));
+    let right = rules::facts_at(table, rules::right_from(n, node));
+    reported(node, left, right)
+}
+
+// Whether a node is marked and has a conflict.
+fn conflicting(book: &[u8], count: usize, n: usize, table: &[u64], marks: &[u64]) -> bool
+    requires { ⌜ Known (now book) count (now table) ⌝ }
+    requires { ⌜ n < count ⌝ }
+    requires { ⌜ marksSize ≤ length (now marks) ⌝ }
+    ensures { λ r. ⌜ Conflicting (bookOf (now (book .entry)) .node) (IsMarked (now (marks .entry))) n r ⌝ }
+{
+    let kind = conflict_at(book, count, n, table);
+    rules::is_marked(marks, n) & (kind != NO_CONFLICT)
+}
+
+// The lowest marked node that has a conflict, or the count where none has one.
+fn lowest_marked(book: &[u8], count: usize, table: &[u64], marks: &[u64]) -> usize
+    requires { ⌜ Known (now book) count (now table) ⌝ }
+    requires { ⌜ marksSize ≤ length (now marks) ⌝ }
+    ensures { λ r. ⌜ LowestConflict (bookOf (now (book .entry)) .node) (IsMarked (now (marks .entry))) count r ⌝ }
+{
+    let mut n = 0;
+    while n < count {
+        if conflicting(book, count, n, table, marks) {
+            return n;
+        }
+        n += 1;
+    }
+    n
+}
+
+// The lowest reachable node that has a conflict, the count where none has one, with blank marks for the reachable nodes.
+fn lowest_conflict(
+    book: &[u8],
+    count: usize,
+    start: usize,
+    table: &[u64],
+    marks: &mut [u64],
+) -> usize
+    requires { ⌜ Known (now book) count (now table) ⌝ }
+    requires { ⌜ start ≡ bookOf (now book) .start ⌝ }
+    requires { ⌜ Blank marksSize (now marks) ⌝ }
+    ensures { λ r. ⌜ LowestConflict (bookOf (now (book .entry)) .node) (Reach (bookOf (now (book .entry)) .node) start) count r ⌝ }
+{
+    rules::reach(book, NODES_AT, count, start, marks);
+    lowest_marked(book, count, table, marks)
+}
+
+// Judges a book of good form, with its facts at hand: BARREN, CONFLICT, or that it passes.
+fn judge_known(book: &[u8], count: usize, table: &[u64]) -> Verdict
+    requires { ⌜ Known (now book) count (now table) ⌝ }
+    ensures { λ r. ⌜ Judges (now (book .entry)) r ⌝ }
+{
+    let start = u16_at(book, SETTINGS_AT + 2);
+    let facts = rules::facts_at(table, start);
+    if !kinds::has(facts.productive, 0) {
+        return answered(BARREN, start, 0);
+    }
+    let mut marks = [0u64; rules::MARKS];
+    let n = lowest_conflict(book, count, start, table, &mut marks);
+    if n < count {
+        let kind = conflict_at(book, count, n, table);
+        return answered(CONFLICT, n, kind);
+    }
+    answered(DONE, 0, 0)
+}
+
+// Judges a book, for any bytes: the first of 1 to 6, or that it passes, with its facts in the table. Where the form is good the table is
+// blank and long enough.
+pub fn judge(book: &[u8], table: &mut [u64]) -> Verdict
+    requires { ⌜ (formOf (now book) .number ≡ DONE → Blank (tableSize (countOf (length (now book)))) (now table)) ⌝ }
+    ensures { λ r. ⌜ Leaves (now (book .entry)) r (now (table .exit)) ⌝ }
+{
+    let form = book::form(book);
+    if form.number != DONE {
+        return answered(form.number, form.place as usize, 0);
+    }
+    let count = book::count_of(book.len());
+    rules::least_facts(book, NODES_AT, count, table);
+    judge_known(book, count, table)
+}

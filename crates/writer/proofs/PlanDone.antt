@@ -1,0 +1,125 @@
+-- The plan of a book of good form is judged done, and is the plan of the book's marks.
+use mathlib.Core.Path.{_≡_, refl, sym, ap, _∙_}
+use mathlib.Core.Bool.{Bool, true, false, not, _&&_, _||_, cond}
+use mathlib.Core.List.{List}
+use Prim.Native.Nat.{ℕ, _+_, _<_}
+use native.Mathlib.Decide.{decLt}
+use native.Mathlib.Nat.{le-of-eq}
+use native.Mathlib.Omega.{arith}
+use borrow.Author.Tests.{eq-eqb, le-leb, lt-ltb}
+use lib.Dec.{leb, eqb}
+use lib.ListN.{length}
+use Rattle.words.specs.Words.{u16At}
+use Rattle.words.proofs.Tests.{joined}
+use Rattle.book.specs.Book.{leftOf, rightOf}
+use Rattle.book.specs.Decode.{nodeAt, nodes}
+use Rattle.book.specs.Form.{judged, DONE, settingsAt, nodesAt, countOf, settingsGood, bookOf}
+use Rattle.book.specs.declared.Node.{Node}
+use Rattle.book.specs.declared.Node.the-variants.{Fail, Empty, Token, Either, Then, Tagged, Ref}
+use Rattle.book.proofs.FirstBad.{first-none}
+use Rattle.book.proofs.Decoded.{Formed, nodes-below}
+use Rattle.running.specs.Cells.{Marks, cellOf, planFor}
+use Rattle.plan.specs.Form.{planNodesAt, planSettingsAt, planCount, planKinds, planStart, planOf, planFrom, cellAt, oneCell, otherCell}
+use Rattle.plan.specs.Form.{sizeGood, planNodesGood, planGood, planJudged}
+use Rattle.running.specs.Running.{reading}
+use Rattle.writer.specs.Bytes.{planBytes}
+use Rattle.running.proofs.Agrees.{Agree, reading-agrees}
+use Rattle.plan.proofs.Children.{left-below, right-below}
+use Rattle.plan.proofs.Columns.{kind-column, last-column}
+use Rattle.plan.proofs.Laws.{first-all, cellGood, cells-done}
+use Rattle.writer.proofs.PlanBytes.{size-is, count-is, kinds-is, start-is, contents-are, node-is, good-is, cell-is, mark-is}
+
+-- a cell is 0 or one of two others, as a test
+abbrev Has : ℕ → ℕ → ℕ → Type 0
+Has one other cell = (eqb cell 0 || eqb cell one || eqb cell other) ≡ true
+
+-- either of two cells, by a test
+chosen : (P : ℕ → Type 0) (b : Bool) {x y : ℕ} → P x → P y → P (cond b x y)
+chosen P true x y = x
+chosen P false x y = y
+
+-- the cells of the marks are ones that the node's type has
+cell-has : (marks : Marks) (k n : ℕ) (node : Node) → Has (oneCell node) (otherCell node) (cellOf marks k n node)
+unfolding cellOf
+cell-has marks k n Fail = refl
+cell-has marks k n Empty = refl
+cell-has marks k n (Token j) = chosen (Has 1 1) (marks .first n k) refl refl
+cell-has marks k n (Either l r) = chosen (Has 2 5) (marks .first n k) (chosen (Has 2 5) (marks .first l k) refl refl) refl
+cell-has marks k n (Then l r) = chosen (Has 3 4) (marks .first n k) (chosen (Has 3 4) (marks .null l && not (marks .first l k)) refl refl) refl
+cell-has marks k n (Tagged l t) = chosen (Has 2 2) (marks .first n k) refl refl
+cell-has marks k n (Ref l) = chosen (Has 2 2) (marks .first n k) refl refl
+
+module _ (bytes : List ℕ) (marks : Marks) (form : Formed bytes) where
+  abbrev count : ℕ
+  count = countOf (length bytes)
+
+  abbrev kinds : ℕ
+  kinds = u16At bytes settingsAt
+
+  abbrev plan : List ℕ
+  plan = planBytes bytes marks
+
+  form-good : planGood plan count kinds ≡ true
+  unfolding planGood planKinds planStart
+  form-good =
+      let kinds-are : u16At plan planSettingsAt ≡ kinds = kinds-is bytes marks form in
+      let starts : u16At plan (planSettingsAt + 2) ≡ u16At bytes (settingsAt + 2) = start-is bytes marks form in
+      let settings : settingsGood plan planSettingsAt count ≡ true =
+      rw (kinds-are, starts) (joined _ _ (joined _ _ (le-leb 1 _ (form .some-kind)) (le-leb _ 64 (form .few-kinds))) (lt-ltb _ _ (form .start-below))) in
+      joined (sizeGood (length plan) count kinds) _
+      (joined _ _ (joined _ _ (eq-eqb _ _ (size-is bytes marks form)) (le-leb 1 _ (form .size .some-node))) (le-leb _ 512 (form .size .few-nodes)))
+      (joined _ (planNodesGood plan count kinds) (joined _ _ (contents-are bytes marks form) settings)
+      (le-leb count _ (le-of-eq (sym (first-all _ count (λ n below. good-is bytes marks form n below kinds count ∙ first-none _ count (form .nodes-good) n below))))))
+
+  -- a node of the plan is the book's
+  node-same : (n : ℕ) → n < count → nodeAt plan planNodesAt n ≡ bookOf bytes .node n
+  unfolding bookOf
+  node-same n below = node-is bytes marks form n below ∙ sym (nodes-below bytes nodesAt count n below)
+
+  column-good : (n column : ℕ) → n < count → column < kinds + 1 → cellGood plan count kinds n column ≡ true
+  unfolding cellAt
+  column-good n column below within =
+      rw (node-same n below)
+      (elim (decLt column kinds) [
+        | yes kind ↦
+            kind-column plan _ kinds _ _ kind (sym (cell-is bytes marks form n column below kind)) (cell-has marks column n (bookOf bytes .node n))
+        | no past ↦
+            let last : column ≡ kinds = omega arith in
+            rw last (last-column plan _ kinds _ _ (sym (mark-is bytes marks form n below)) (mark-small (marks .null n)))
+      ])
+    where
+      mark-small : (b : Bool) → leb (cond b 1 0) 1 ≡ true
+      mark-small true = refl
+      mark-small false = refl
+
+  pub plan-done : planJudged plan ≡ judged DONE 0
+  unfolding planJudged
+  plan-done = rw (count-is bytes marks form, kinds-is bytes marks form, form-good) (cells-done plan count kinds column-good)
+
+  pub plan-agrees : Agree (planFor (bookOf bytes) marks) (planOf plan)
+  unfolding planFrom bookOf
+  plan-agrees =
+      record {
+        count = sym (count-is bytes marks form);
+        kinds = sym (kinds-is bytes marks form);
+        start = sym (start-is bytes marks form);
+        start-below = form .start-below;
+        left = λ n below. ap leftOf (looked-up n below);
+        right = λ n below. ap rightOf (looked-up n below);
+        left-below = λ n below. left-below below (form .good .proper n below);
+        right-below = λ n below. right-below below (form .good .proper n below);
+        cell = λ n k below kind. rw (count-is bytes marks form, kinds-is bytes marks form) (sym (cell-is bytes marks form n k below kind));
+        null = λ n below. rw (count-is bytes marks form, kinds-is bytes marks form, mark-is bytes marks form n below) (marked (marks .null n));
+      }
+    where
+      looked-up : (n : ℕ) → n < count → nodes bytes nodesAt count n ≡ nodes plan planNodesAt (planCount plan) n
+      looked-up n below =
+          rw (count-is bytes marks form) (nodes-below bytes nodesAt count n below ∙ sym (node-is bytes marks form n below) ∙ sym (nodes-below plan planNodesAt count n below))
+
+      marked : (b : Bool) → b ≡ eqb (cond b 1 0) 1
+      marked true = refl
+      marked false = refl
+
+  -- the plan's bytes read as the marks say
+  pub plan-reads : (free : ℕ → Bool) (run : List ℕ) → reading (planOf plan) free run ≡ reading (planFor (bookOf bytes) marks) free run
+  plan-reads free run = sym (reading-agrees plan-agrees free run)

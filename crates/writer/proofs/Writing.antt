@@ -1,0 +1,120 @@
+-- What the plan writer is called with, and the row that it writes for a node.
+use mathlib.Core.Path.{_≡_, sym, ap, ap₂, _∙_}
+use mathlib.Core.Bool.{cond}
+use mathlib.Core.List.{List, _++_, append-assoc}
+use Prim.Native.Nat.{ℕ, _+_, _-_, _≤_, _<_}
+use native.Mathlib.Omega.{arith}
+use lib.ListN.{length, drop, length-drop, length-append}
+use lib.Seq.{sets, length-sets}
+use Rattle.kinds.specs.Kinds.{has?}
+use Rattle.words.specs.Words.{zeros}
+use Rattle.book.specs.Book.{leftOf}
+use Rattle.book.specs.Decode.{nodeAt}
+use Rattle.book.specs.Form.{nodesAt, bookOf}
+use Rattle.book.specs.declared.Node.{Node}
+use Rattle.book.proofs.Decoded.{Formed, formed, nodes-below}
+use Rattle.rules.specs.declared.NodeFacts.{NodeFacts}
+use Rattle.rules.specs.Facts.{factsAt}
+use Rattle.running.specs.Cells.{Marks}
+use Rattle.plan.specs.Form.{rowsAt, rowAt, planSize, oneCell}
+use Rattle.writer.specs.Bytes.{listsFrom, planContents, rowOf, rowsOf, planBytes}
+use Rattle.writer.specs.Table.{marksOf, farCell, rowBy, Writable, ClearFrom}
+use Rattle.plan.proofs.Children.{left-below}
+use Rattle.plan.proofs.Laws.{size-small}
+use Rattle.writer.proofs.PlanBytes.{length-contents, length-row, size-is}
+use Rattle.writer.proofs.Row.{row-by}
+use Rattle.plan.proofs.Rows.{row-within}
+use Rattle.writer.proofs.Sparse.{clear-zeros, clear-behind}
+use Rattle.writer.proofs.Stored.{sets-then, sets-zeros}
+
+-- a buffer of the same length serves as well
+pub writable-kept : {book table plan other : List ℕ} {count kinds : ℕ} → length other ≡ length plan → Writable book table plan count kinds
+    → Writable book table other count kinds
+writable-kept long w =
+    record {
+      form = w .form;
+      count-is = w .count-is;
+      kinds-is = w .kinds-is;
+      table-long = w .table-long;
+      plan-long = rw long (w .plan-long);
+    }
+
+module _ {book table plan : List ℕ} {count kinds : ℕ} (w : Writable book table plan count kinds) where
+  pub book-formed : Formed book
+  book-formed = formed book (w .form)
+
+  pub few-kinds : kinds ≤ 64
+  few-kinds = rw (w .kinds-is) (book-formed .few-kinds)
+
+  pub small-size : planSize count kinds < 65536
+  small-size = omega (arith, size-small count kinds (rw (w .count-is) (book-formed .size .few-nodes)) few-kinds)
+
+  pub row-fits : {n at : ℕ} → n < count → at ≡ rowAt count kinds n → at + (kinds + 1) ≤ length plan
+  row-fits below is = omega (arith, w .plan-long, row-within count kinds below)
+
+  pub row-length : (n : ℕ) → length (rowOf (marksOf table count) (bookOf book) n) ≡ kinds + 1
+  unfolding bookOf
+  row-length n = length-row (marksOf table count) (bookOf book) n ∙ ap (λ (k : ℕ). k + 1) (sym (w .kinds-is))
+
+  pub rows-are : listsFrom (rowOf (marksOf table count) (bookOf book)) count 0 ≡ rowsOf (marksOf table count) (bookOf book)
+  unfolding rowsOf bookOf
+  rows-are = ap (λ (m : ℕ). listsFrom (rowOf (marksOf table count) (bookOf book)) m 0) (w .count-is)
+
+  module _ {n : ℕ} {node : Node} (below : n < count) (node-is : node ≡ nodeAt book nodesAt n) where
+    looked-up : bookOf book .node n ≡ node
+    unfolding bookOf
+    looked-up = nodes-below book nodesAt _ n (rw (w .count-is) at below) ∙ sym node-is
+
+    pub left-small : leftOf node < count
+    unfolding bookOf
+    left-small =
+        rw (w .count-is) (left-below (rw (w .count-is) at below) (rw looked-up at (book-formed .good .proper n (rw (w .count-is) at below))))
+
+    pub row-is : {left near far mark skip : ℕ} {facts left-facts : NodeFacts} → left ≡ leftOf node → facts ≡ factsAt table n
+        → left-facts ≡ factsAt table left → near ≡ oneCell node → far ≡ farCell node skip → skip ≡ cond (has? (left-facts .nullable) 0) 4 3
+        → mark ≡ cond (has? (facts .nullable) 0) 1 0
+        → rowBy (facts .first) (left-facts .first) near far kinds mark ≡ rowOf (marksOf table count) (bookOf book) n
+    unfolding bookOf
+    row-is left-is facts-are left-facts-are near-is far-is skip-is mark-is =
+        rw (mark-is, far-is, skip-is, facts-are, left-facts-are, near-is, left-is, ← looked-up, w .kinds-is) (row-by table count n below (bookOf book) (rw looked-up left-small))
+
+  -- contents, settings and nodes stored in a clear buffer leave it clear where the rows begin
+  pub rows-ready : {one two : List ℕ} → plan ≡ zeros (length plan) → one ≡ sets plan 0 (planContents count kinds) → two ≡ sets one 20 (drop 14 book)
+      → Writable book table two count kinds × ClearFrom two (rowsAt count)
+  rows-ready {one} {two} clear first second = (
+    writable-kept (ap length second ∙ length-sets one 20 (drop 14 book) ∙ ap length first ∙ length-sets plan 0 (planContents count kinds)) w,
+    clear-behind (drop 14 book)
+        (clear-behind {behind = 20} (planContents count kinds) (clear-zeros (length plan) 0 clear) first (omega (arith, length-contents count kinds)))
+        second
+        (omega (arith, length-drop 14 book, book-formed .size .is, w .count-is)),
+  )
+
+  -- contents, settings and nodes, and rows, stored one behind the other in a cleared buffer, are the plan and zeros behind it
+  module _ (marks : Marks) where
+    abbrev rows : List ℕ
+    rows = rowsOf marks (bookOf book)
+
+    parts-are : planContents count kinds ++ (drop 14 book ++ rows) ≡ planBytes book marks
+    unfolding planBytes bookOf
+    parts-are = ap₂ (λ (c k : ℕ). planContents c k ++ (drop 14 book ++ rows)) (w .count-is) (w .kinds-is)
+
+    pub plan-written : {cleared one two three : List ℕ} → cleared ≡ zeros (length plan) → one ≡ sets cleared 0 (planContents count kinds)
+        → two ≡ sets one 20 (drop 14 book) → three ≡ sets two (rowsAt count) rows
+        → three ≡ planBytes book marks ++ zeros (length plan - planSize count kinds)
+    plan-written clear first second third =
+        third
+        ∙ rw (second, first, clear)
+        (ap (λ (l : List ℕ). sets l (rowsAt count) rows) (sets-then (zeros (length plan)) 0 contents 20 (drop 14 book) (omega (arith, contents-long)))
+        ∙ sets-then (zeros (length plan)) 0 (contents ++ drop 14 book) (rowsAt count) rows
+        (omega (arith, contents-long, length-append contents (drop 14 book), length-drop 14 book, book-formed .size .is, w .count-is))
+        ∙ rw (append-assoc, parts-are)
+        (sets-zeros (length plan) (planBytes book marks) (omega (arith, size, w .plan-long)) ∙ ap (λ (m : ℕ). planBytes book marks ++ zeros (length plan - m)) size))
+      where
+        contents : List ℕ
+        contents = planContents count kinds
+
+        contents-long : length contents ≡ 20
+        contents-long = length-contents count kinds
+
+        size : length (planBytes book marks) ≡ planSize count kinds
+        size = rw (w .count-is, w .kinds-is) (size-is book marks book-formed)

@@ -1,0 +1,89 @@
+/*
+ * The library with a fault between it and its caller, to see that the tests catch it. The environment variable
+ * DRUMBOOK_FAULT names the fault: a parameter and a number of bits ("run 17": the length of the run is taken by its
+ * lowest 17 bits), or a word from the calls below. The true calls have the names true_form and so on.
+ */
+#include <stdlib.h>
+#include <string.h>
+
+#include "drumbook.h"
+
+enum { BOOK_NODES = 18, NODE_BYTES = 6, KINDS_AT = 14 };
+
+drumbook_formed true_form(const uint8_t *book, size_t book_len);
+drumbook_compiled true_compile(const uint8_t *book, size_t book_len, uint8_t *plan, size_t plan_len);
+drumbook_reading true_read(const uint8_t *plan, size_t plan_len, const uint8_t *run, size_t run_len,
+                           uint16_t *held, size_t held_len, uint16_t *tree, size_t tree_len);
+
+/* What a call answers that has a fault at null pointers. */
+enum { BROKEN = 18 };
+
+/* The fault that is chosen, or none. */
+static const char *fault(void)
+{
+    const char *named = getenv("DRUMBOOK_FAULT");
+    return named == NULL ? "" : named;
+}
+
+/* Whether this fault is chosen. */
+static int has(const char *name)
+{
+    return strcmp(fault(), name) == 0;
+}
+
+/* A parameter's length, cut to some bits where that fault is chosen. */
+static size_t cut(const char *parameter, size_t length)
+{
+    size_t name = strlen(parameter);
+    if (strncmp(fault(), parameter, name) != 0 || fault()[name] != ' ')
+        return length;
+    return length & (((size_t)1 << atoi(fault() + name + 1)) - 1);
+}
+
+/* Whether a book has so many nodes and kinds. */
+static int sized(const uint8_t *book, size_t length, size_t nodes, size_t kinds)
+{
+    return length == BOOK_NODES + NODE_BYTES * nodes && book[KINDS_AT] == kinds;
+}
+
+drumbook_formed drumbook_form(const uint8_t *book, size_t book_len)
+{
+    if (has("null") && book == NULL)
+        return (drumbook_formed){BROKEN, 0};
+    return true_form(book, cut("form-book", book_len));
+}
+
+drumbook_compiled drumbook_compile(const uint8_t *book, size_t book_len, uint8_t *plan, size_t plan_len)
+{
+    if (has("null") && (book == NULL || plan == NULL))
+        return (drumbook_compiled){BROKEN, 0, 0, 0};
+    drumbook_compiled answer = true_compile(book, cut("compile-book", book_len), plan, cut("plan-buffer", plan_len));
+    if (answer.size != 0) {
+        answer.size += has("size-511-63") && sized(book, book_len, 511, 63);
+        answer.size += has("size-512-64") && sized(book, book_len, 512, 64);
+        answer.size += has("size-1-1") && sized(book, book_len, 1, 1);
+        if (has("cell-300-40") && answer.number == DRUMBOOK_DONE && sized(book, book_len, 300, 40))
+            plan[answer.size - 1] ^= 1;
+    }
+    if (has("plan-tail") && plan_len > answer.size)
+        plan[plan_len - 1] = 1;
+    return answer;
+}
+
+drumbook_reading drumbook_read(const uint8_t *plan, size_t plan_len, const uint8_t *run, size_t run_len,
+                               uint16_t *held, size_t held_len, uint16_t *tree, size_t tree_len)
+{
+    if (has("null") && (plan == NULL || run == NULL || held == NULL || tree == NULL))
+        return (drumbook_reading){BROKEN, 0, 0, 0};
+    drumbook_reading answer = true_read(plan, cut("plan", plan_len), run, cut("run", run_len),
+                                        held, cut("slots", held_len), tree, cut("tree-buffer", tree_len));
+    if (has("records-16") && answer.records > 65535)
+        answer.records -= 65536;
+    if (has("tree-tail") && tree_len > answer.records)
+        tree[tree_len - 1] = 1;
+    if (has("slot-left") && held_len > 1)
+        held[held_len - 1] = 1;
+    if (has("kind-63"))
+        answer.expected &= ~((uint64_t)1 << 63);
+    return answer;
+}

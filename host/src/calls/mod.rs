@@ -1,0 +1,178 @@
+//! The calls as one table. A row says what a call takes and answers, how it is made, what it must answer, and how the
+//! fuzzer makes cases of it; the lender, the tests, the fuzzer and the shrinker go by the table.
+
+pub mod compile;
+pub mod form;
+pub mod lender;
+pub mod listing;
+pub mod read;
+pub mod sorts;
+
+use crate::answers::{Compiled, Formed, Reading};
+use crate::books::random::Random;
+use lender::{Lender, Lending, Raw};
+use sorts::Sort;
+use std::fmt::LowerHex;
+
+/// A form test.
+pub type Form = fn(&[u8]) -> Formed;
+
+/// A compiler.
+pub type Compile = fn(&[u8], &mut [u8]) -> Compiled;
+
+/// A reader.
+pub type Read = fn(&[u8], &[u8], &mut [u16], &mut [u16]) -> Reading;
+
+/// All calls; a call's place here is its number.
+pub static CALLS: [&Call; 4] = [
+    &form::FORM,
+    &compile::COMPILE,
+    &read::READ,
+    &listing::LISTING,
+];
+
+/// A call.
+pub struct Call {
+    pub name: &'static str,
+    /// What it takes, in the header's order.
+    pub takes: &'static [&'static Sort],
+    /// The fields of its answer, the number first.
+    pub fields: &'static [&'static str],
+    /// Every number that it can answer, and how often at least among 100,000 of the fuzzer's cases of this call.
+    pub answers: &'static [(u32, u64)],
+    /// How often the fuzzer makes the call, beside the others.
+    pub share: usize,
+    /// What the call must answer and leave behind.
+    pub wanted: fn(&[Argument]) -> Answer,
+    /// How the call under test is made.
+    pub made: Made,
+    /// Arguments that the call answers with done: the rinse book's, with a run of three events.
+    pub example: fn() -> Vec<Argument>,
+    /// Arguments of any sort that the fuzzer tries.
+    pub any: fn(&mut Random) -> Vec<Argument>,
+}
+
+/// How a call under test is made.
+#[derive(Clone, Copy)]
+pub enum Made {
+    /// By the archive, on parts of memory.
+    Archive(Raw),
+    /// By a program of its own.
+    Program(fn(&[Argument], Lending) -> Answer),
+}
+
+impl Call {
+    /// What the call under test answers to these arguments and leaves behind.
+    pub fn given(&self, lender: &mut Lender, arguments: &[Argument], lending: Lending) -> Answer {
+        match self.made {
+            Made::Archive(raw) => lender.call(raw, self.takes, arguments, lending),
+            Made::Program(run) => run(arguments, lending),
+        }
+    }
+
+    /// An answer of this call in words: its fields by name, and what it leaves, in hexadecimal.
+    pub fn told(&self, answer: &Answer) -> String {
+        let fields = self.fields.iter().zip(&answer.fields);
+        let fields: Vec<String> = fields
+            .map(|(name, value)| format!("{name} {value}"))
+            .collect();
+        let mut told = fields.join(", ") + "\n";
+        for left in &answer.left {
+            told += &match left {
+                Left::Bytes(bytes) => buffer_told(bytes),
+                Left::Words(words) => buffer_told(words),
+            };
+        }
+        if !answer.kept {
+            told += "  memory beside a buffer was written\n";
+        }
+        told
+    }
+}
+
+impl PartialEq for Call {
+    /// Calls are told apart by their names.
+    fn eq(&self, other: &Call) -> bool {
+        self.name == other.name
+    }
+}
+
+/// What is handed to a call for one of its parameters.
+#[derive(Clone, Debug, PartialEq, Eq)]
+pub enum Argument {
+    /// Bytes that it may only read.
+    Given(Vec<u8>),
+    /// A buffer of so many elements that it is to write.
+    Room(usize),
+}
+
+impl Argument {
+    /// The bytes that are given.
+    pub fn bytes(&self) -> &[u8] {
+        match self {
+            Argument::Given(bytes) => bytes,
+            Argument::Room(_) => panic!("a buffer where bytes are due"),
+        }
+    }
+
+    /// The length of the buffer that is lent.
+    pub fn room(&self) -> usize {
+        match self {
+            Argument::Given(_) => panic!("bytes where a buffer is due"),
+            Argument::Room(room) => *room,
+        }
+    }
+
+    /// How large it is.
+    pub fn size(&self) -> usize {
+        match self {
+            Argument::Given(bytes) => bytes.len(),
+            Argument::Room(room) => *room,
+        }
+    }
+}
+
+/// What a buffer holds after a call.
+#[derive(Clone, Debug, PartialEq, Eq)]
+pub enum Left {
+    Bytes(Vec<u8>),
+    Words(Vec<u16>),
+}
+
+/// What a call answers, and what it leaves in the buffers lent to it.
+#[derive(Clone, Debug, PartialEq, Eq)]
+pub struct Answer {
+    /// The values of the call's fields.
+    pub fields: Vec<u64>,
+    pub left: Vec<Left>,
+    /// Whether memory beside the buffers was kept.
+    pub kept: bool,
+}
+
+impl Answer {
+    /// The answer with these fields that leaves this in the buffers.
+    pub fn new(fields: Vec<u64>, left: Vec<Left>) -> Answer {
+        Answer {
+            fields,
+            left,
+            kept: true,
+        }
+    }
+
+    /// The answer's number.
+    pub fn number(&self) -> u32 {
+        self.fields[0] as u32
+    }
+}
+
+/// A buffer's numbers in hexadecimal, those that are the same in a row once, with their count.
+fn buffer_told<T: LowerHex + PartialEq>(buffer: &[T]) -> String {
+    let mut told = format!("  left ({})", buffer.len());
+    for same in buffer.chunk_by(|a, b| a == b) {
+        told += &format!(" {:x}", same[0]);
+        if same.len() > 1 {
+            told += &format!("*{}", same.len());
+        }
+    }
+    told + "\n"
+}

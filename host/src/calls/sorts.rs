@@ -1,0 +1,88 @@
+//! What calls take: each sort of parameter, how it is lent, how long it gets, and how it shrinks.
+
+use super::Argument;
+use crate::smaller::*;
+
+/// A sort of parameter; no call takes two of one sort.
+pub struct Sort {
+    pub name: &'static str,
+    pub way: Way,
+    /// The most elements that are lent.
+    pub most: usize,
+}
+
+/// How a parameter is lent.
+#[derive(Clone, Copy)]
+pub enum Way {
+    /// Bytes to be read, with the way to smaller ones.
+    Read(fn(&[u8]) -> Smaller<Vec<u8>>),
+    /// Bytes to be written.
+    WriteBytes,
+    /// 16-bit numbers to be written.
+    WriteWords,
+}
+
+/// The most elements that are lent of most sorts.
+const MOST: usize = 9 << 20;
+
+/// A book, or what is given as one.
+pub static BOOK: Sort = Sort {
+    name: "book",
+    way: Way::Read(smaller_books),
+    most: MOST,
+};
+
+/// A plan, or what is given as one.
+pub static PLAN: Sort = Sort {
+    name: "plan",
+    way: Way::Read(smaller_plans),
+    most: MOST,
+};
+
+/// A run.
+pub static RUN: Sort = Sort {
+    name: "run",
+    way: Way::Read(smaller_bytes),
+    most: MOST,
+};
+
+/// The listing program's input.
+pub static INPUT: Sort = Sort {
+    name: "input",
+    way: Way::Read(smaller_inputs),
+    most: MOST,
+};
+
+/// The buffer that the plan is written to.
+pub static PLAN_BUFFER: Sort = Sort {
+    name: "plan buffer",
+    way: Way::WriteBytes,
+    most: MOST,
+};
+
+/// The holding slots.
+pub static SLOTS: Sort = Sort {
+    name: "slots",
+    way: Way::WriteWords,
+    most: MOST,
+};
+
+/// The buffer that the records are written to.
+pub static TREE_BUFFER: Sort = Sort {
+    name: "tree buffer",
+    way: Way::WriteWords,
+    most: 40_000_000,
+};
+
+impl Sort {
+    /// Arguments smaller than this one of this sort, the smallest first.
+    pub fn smaller(&self, argument: &Argument) -> Smaller<Argument> {
+        match (self.way, argument) {
+            (Way::Read(smaller), Argument::Given(bytes)) => {
+                Box::new(smaller(bytes).map(Argument::Given))
+            }
+            (_, Argument::Room(room)) => Box::new(smaller_numbers(*room).map(Argument::Room)),
+            (_, Argument::Given(_)) => panic!("bytes where a buffer is due"),
+        }
+    }
+}

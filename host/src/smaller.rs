@@ -1,0 +1,123 @@
+//! What is smaller than a thing: bytes given as a book or a plan, other bytes, inputs, numbers.
+
+use crate::answers::{CONTENTS, LENGTH};
+use crate::book::*;
+use crate::form::form;
+use crate::listing::{self, input};
+use crate::read::taken_apart;
+
+/// Some of what is smaller than a thing, the smallest first.
+pub type Smaller<T> = Box<dyn Iterator<Item = T>>;
+
+/// Bytes smaller than these, which are given as a book: with a node less or plainer, or just fewer or smaller bytes.
+pub fn smaller_books(bytes: &[u8]) -> Smaller<Vec<u8>> {
+    let mut books = Vec::new();
+    if !matches!(form(bytes).number, LENGTH | CONTENTS) {
+        let book = Book::of(&bytes[BOOK_SETTINGS..]);
+        let fewer = (0..book.nodes.len()).map(|gone| without(&book, gone));
+        books.extend(fewer.chain(plainer(&book)).map(|book| book.bytes()));
+    }
+    Box::new(books.into_iter().chain(smaller_bytes(bytes)))
+}
+
+/// Bytes smaller than these, which are given as a plan: with a node or a kind less, or just fewer or smaller bytes.
+pub fn smaller_plans(bytes: &[u8]) -> Smaller<Vec<u8>> {
+    let mut plans = Vec::new();
+    if let Some(plan) = taken_apart(bytes) {
+        let (book, width) = (&plan.book, usize::from(plan.book.kinds) + 1);
+        for gone in 0..book.nodes.len() {
+            let kept = |at: usize| at / width != gone;
+            plans.push(without(book, gone).plan(&kept_cells(plan.cells, kept)));
+        }
+        for gone in 0..width - 1 {
+            let mut fewer = book.clone();
+            fewer.kinds -= 1;
+            let kept = |at: usize| at % width != gone;
+            plans.push(fewer.plan(&kept_cells(plan.cells, kept)));
+        }
+    }
+    Box::new(plans.into_iter().chain(smaller_bytes(bytes)))
+}
+
+/// The cells at the places that are kept.
+fn kept_cells(cells: &[u8], kept: impl Fn(usize) -> bool) -> Vec<u8> {
+    let places = (0..cells.len()).filter(|&at| kept(at));
+    places.map(|at| cells[at]).collect()
+}
+
+/// Inputs of the listing program smaller than this one: with a smaller book, or just fewer or smaller bytes.
+pub fn smaller_inputs(bytes: &[u8]) -> Smaller<Vec<u8>> {
+    let smaller = smaller_bytes(bytes);
+    match listing::taken_apart(bytes) {
+        Ok((book, run)) => {
+            let run = run.to_vec();
+            let by_book = smaller_books(book).map(move |book| input(&book, &run));
+            Box::new(by_book.chain(smaller))
+        }
+        Err(_) => smaller,
+    }
+}
+
+/// The book without a node; what pointed at it points at the node before it.
+fn without(book: &Book, gone: usize) -> Book {
+    let moved = |to: u16| to - u16::from(usize::from(to) >= gone.max(1));
+    let mut nodes = book.nodes.clone();
+    nodes.remove(gone);
+    for node in &mut nodes {
+        if matches!(node.form, EITHER..=REF) {
+            node.left = moved(node.left);
+        }
+        if matches!(node.form, EITHER | THEN) {
+            node.right = moved(node.right);
+        }
+    }
+    Book {
+        kinds: book.kinds,
+        start: moved(book.start),
+        nodes,
+    }
+}
+
+/// The books in which one node is plainer.
+fn plainer(book: &Book) -> Vec<Book> {
+    let mut books = Vec::new();
+    for (own, old) in book.nodes.iter().enumerate() {
+        for form in (FAIL..=TOKEN).filter(|&form| form < old.form) {
+            let mut plainer = book.clone();
+            plainer.nodes[own] = node(form, 0, 0);
+            books.push(plainer);
+        }
+    }
+    books
+}
+
+/// Fewer of these bytes, from half of them down to one taken out, then one of them made smaller.
+pub fn smaller_bytes(bytes: &[u8]) -> Smaller<Vec<u8>> {
+    let (all, same) = (bytes.to_vec(), bytes.to_vec());
+    let sizes = std::iter::successors(Some(bytes.len()), |size| Some(size / 2));
+    let cuts = sizes
+        .take_while(|&size| size > 0)
+        .flat_map(move |size| (0..all.len()).step_by(size).map(move |at| (at, size)));
+    let all = bytes.to_vec();
+    let fewer = cuts.map(move |(at, size)| {
+        let end = (at + size).min(all.len());
+        [&all[..at], &all[end..]].concat()
+    });
+    let lower = (0..bytes.len()).flat_map(move |at| {
+        let same = same.clone();
+        smaller_numbers(usize::from(same[at])).map(move |value| {
+            let mut bytes = same.clone();
+            bytes[at] = value as u8;
+            bytes
+        })
+    });
+    Box::new(fewer.chain(lower))
+}
+
+/// Numbers smaller than this one: none, half, one less.
+pub fn smaller_numbers(number: usize) -> Smaller<usize> {
+    let mut smaller = vec![0, number / 2, number.saturating_sub(1)];
+    smaller.dedup();
+    smaller.retain(|&other| other < number);
+    Box::new(smaller.into_iter())
+}

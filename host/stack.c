@@ -1,0 +1,185 @@
+/*
+ * Measures how much stack each call takes, on a stack of its own that is painted before the call, and holds it to a
+ * bound. Every call is made once before, so that what it takes from the C library is bound when it is measured.
+ */
+#define _XOPEN_SOURCE 700
+#include <stdio.h>
+#include <string.h>
+#include <ucontext.h>
+
+#include "drumbook.h"
+#include "rinse.h"
+
+enum { STACK = 1 << 18, ADDRESS = 8, SLOTS = 64, ROOM = 1024 };
+enum { TOKEN = 2, TAGGED = 5, BOOK_NODES = 18, NODE_BYTES = 6 };
+
+/* What a call is made on: the bytes given as a book or a plan, and a run. */
+typedef struct {
+    const uint8_t *bytes;
+    size_t length;
+    const uint8_t *run;
+    size_t events;
+} input;
+
+/* A call: its name, how it is made, what on, what it answers, and the most bytes of stack that it may take. */
+typedef struct {
+    const char *name;
+    uint32_t (*make)(const input *given);
+    input given;
+    uint32_t number;
+    size_t most;
+} row;
+
+static uint8_t stack[STACK] __attribute__((aligned(64)));
+static uint8_t plan[DRUMBOOK_LARGEST_PLAN], made[DRUMBOOK_LARGEST_PLAN];
+static uint8_t small[BOOK_NODES + NODE_BYTES * 64], middle[BOOK_NODES + NODE_BYTES * 65];
+static uint8_t large[DRUMBOOK_LARGEST_BOOK], damaged[sizeof rinse];
+static uint16_t held[SLOTS], tree[ROOM];
+
+static ucontext_t here, there;
+static const row *current;
+static uint32_t answered;
+
+/* The calls that are made: those of the library, or such as do nothing, by which the way to a call is measured. */
+static drumbook_formed (*volatile form_call)(const uint8_t *, size_t);
+static drumbook_compiled (*volatile compile_call)(const uint8_t *, size_t, uint8_t *, size_t);
+static drumbook_reading (*volatile read_call)(const uint8_t *, size_t, const uint8_t *, size_t, uint16_t *, size_t,
+                                              uint16_t *, size_t);
+
+/* Tests nothing. */
+static drumbook_formed no_form(const uint8_t *book, size_t book_len)
+{
+    (void)book, (void)book_len;
+    return (drumbook_formed){0, 0};
+}
+
+/* Compiles nothing. */
+static drumbook_compiled no_compile(const uint8_t *book, size_t book_len, uint8_t *to, size_t to_len)
+{
+    (void)book, (void)book_len, (void)to, (void)to_len;
+    return (drumbook_compiled){0, 0, 0, 0};
+}
+
+/* Reads nothing. */
+static drumbook_reading no_read(const uint8_t *from, size_t from_len, const uint8_t *run, size_t run_len,
+                                uint16_t *slots, size_t slots_len, uint16_t *records, size_t records_len)
+{
+    (void)from, (void)from_len, (void)run, (void)run_len;
+    (void)slots, (void)slots_len, (void)records, (void)records_len;
+    return (drumbook_reading){0, 0, 0, 0};
+}
+
+/* Makes a form test. */
+static uint32_t forms(const input *given)
+{
+    return form_call(given->bytes, given->length).number;
+}
+
+/* Makes a compilation. */
+static uint32_t compiles(const input *given)
+{
+    return compile_call(given->bytes, given->length, made, sizeof made).number;
+}
+
+/* Makes a reading. */
+static uint32_t reads(const input *given)
+{
+    return read_call(given->bytes, given->length, given->run, given->events, held, SLOTS, tree, ROOM).number;
+}
+
+/* Makes the current call. */
+static void make(void)
+{
+    answered = current->make(&current->given);
+}
+
+/* The bytes of a painted stack that the current call, and the way to it, write. */
+static size_t written(uint8_t paint)
+{
+    size_t free_bytes = 0;
+    memset(stack, paint, sizeof stack);
+    getcontext(&there);
+    there.uc_stack.ss_sp = stack;
+    there.uc_stack.ss_size = sizeof stack;
+    there.uc_link = &here;
+    makecontext(&there, make, 0);
+    swapcontext(&here, &there);
+    while (free_bytes < sizeof stack && stack[free_bytes] == paint)
+        free_bytes++;
+    return sizeof stack - free_bytes;
+}
+
+/* The more of two paints: a call may write the one that it finds. */
+static size_t most_written(void)
+{
+    size_t one = written(0xA5), other = written(0x5A);
+    return one > other ? one : other;
+}
+
+/* The bytes of stack that the current call takes, its return address among them. */
+static size_t taken(void)
+{
+    form_call = drumbook_form, compile_call = drumbook_compile, read_call = drumbook_read;
+    make();
+    size_t all = most_written();
+    form_call = no_form, compile_call = no_compile, read_call = no_read;
+    uint32_t number = answered;
+    size_t way = most_written();
+    answered = number;
+    return all - way + ADDRESS;
+}
+
+/* Writes a book of tagged nodes above a token, as many as fit. */
+static void write_book(uint8_t *book, size_t length)
+{
+    size_t count = (length - BOOK_NODES) / NODE_BYTES;
+    size_t words[9] = {2, 1, 14, 4, 2, BOOK_NODES, NODE_BYTES * count, 64, count - 1};
+    memset(book, 0, length);
+    for (size_t i = 0; i < 9; i++) {
+        book[2 * i] = (uint8_t)words[i];
+        book[2 * i + 1] = (uint8_t)(words[i] >> 8);
+    }
+    for (size_t n = 0; n < count; n++) {
+        uint8_t *node = book + BOOK_NODES + NODE_BYTES * n;
+        node[0] = n == 0 ? TOKEN : TAGGED;
+        node[2] = (uint8_t)(n == 0 ? 0 : n - 1);
+        node[3] = (uint8_t)(n == 0 ? 0 : (n - 1) >> 8);
+        node[4] = n == 0 ? 0 : 1;
+    }
+}
+
+int main(void)
+{
+    static const uint8_t run[] = {0, 1, 2}, zero[] = {0};
+    static uint8_t rinse_plan[256];
+    write_book(small, sizeof small);
+    write_book(middle, sizeof middle);
+    write_book(large, sizeof large);
+    memcpy(damaged, rinse, sizeof rinse);
+    damaged[0] = 3;
+    size_t rinse_size = drumbook_compile(rinse, sizeof rinse, rinse_plan, sizeof rinse_plan).size;
+    size_t size = drumbook_compile(large, sizeof large, plan, sizeof plan).size;
+    const row rows[] = {
+        {"form, no bytes", forms, {NULL, 0, NULL, 0}, DRUMBOOK_LENGTH, 300},
+        {"form, the largest book", forms, {large, sizeof large, NULL, 0}, DRUMBOOK_DONE, 300},
+        {"compile, refused: LENGTH", compiles, {NULL, 0, NULL, 0}, DRUMBOOK_LENGTH, 17000},
+        {"compile, refused: CONTENTS", compiles, {damaged, sizeof damaged, NULL, 0}, DRUMBOOK_CONTENTS, 17000},
+        {"compile, 9 nodes", compiles, {rinse, sizeof rinse, NULL, 0}, DRUMBOOK_DONE, 17000},
+        {"compile, 64 nodes", compiles, {small, sizeof small, NULL, 0}, DRUMBOOK_DONE, 17000},
+        {"compile, 65 nodes", compiles, {middle, sizeof middle, NULL, 0}, DRUMBOOK_DONE, 17000},
+        {"compile, the largest book", compiles, {large, sizeof large, NULL, 0}, DRUMBOOK_DONE, 17000},
+        {"read, refused: PLAN FORM", reads, {NULL, 0, NULL, 0}, DRUMBOOK_PLAN_FORM, 300},
+        {"read, the rinse plan", reads, {rinse_plan, rinse_size, run, sizeof run}, DRUMBOOK_DONE, 300},
+        {"read, the largest plan", reads, {plan, size, zero, sizeof zero}, DRUMBOOK_DONE, 300},
+    };
+    int failed = 0;
+    for (size_t i = 0; i < sizeof rows / sizeof *rows; i++) {
+        current = &rows[i];
+        size_t bytes = taken();
+        int good = answered == current->number && bytes <= current->most;
+        printf("%-28s %6zu bytes of stack, at most %zu%s\n", current->name, bytes, current->most,
+               good ? "" : ": FAILED");
+        failed |= !good;
+    }
+    return failed;
+}
