@@ -23,7 +23,7 @@ enum {
     MOST_SLOTS = 32768,
     MOST_ROOM = 1 << 20,
     GARBAGE = 0xA5,
-    SAMPLES = 60,
+    SAMPLES = 200,
     SAMPLE_NS = 1000000
 };
 

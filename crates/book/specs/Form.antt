@@ -46,11 +46,6 @@ abbrev pub lengthGood : ℕ → Bool
 lengthGood size =
     leb 1 (countOf size) && leb (countOf size) 512 && eqb size (formSize (bookSections (countOf size)))
 
--- a contents entry: section number, offset, length
-abbrev pub entryIs : List ℕ → ℕ → ℕ → ℕ → ℕ → Bool
-entryIs bytes at section offset size =
-    eqb (u16At bytes at) section && eqb (u16At bytes (at + 2)) offset && eqb (u16At bytes (at + 4)) size
-
 -- the contents are those fixed by the length
 abbrev pub contentsGood : List ℕ → Bool
 contentsGood bytes = contentsAre bytes (bookSections (countOf (length bytes)))

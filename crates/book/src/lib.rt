@@ -6,7 +6,7 @@ ghost use Prim.Native.Nat.{_+_, _*_, _-_, _≤_, _<_};
 ghost use lib.ListN.{length};
 ghost use Rattle.book.specs.Decode.{typeOf, typedNode, fieldsGood, nodeAt, nodeGood, firstBad};
 ghost use Rattle.book.specs.Decode.{failRule, emptyRule, tokenRule, eitherRule, thenRule, taggedRule, refRule};
-ghost use Rattle.book.specs.Form.{nodesAt, countOf, lengthGood, entryIs, contentsGood, settingsGood, formOf, bookOf, DONE};
+ghost use Rattle.book.specs.Form.{nodesAt, countOf, lengthGood, contentsGood, settingsGood, formOf, bookOf, DONE};
 use forms::contents_are;
 use words::u16_at;
 
@@ -183,16 +183,6 @@ pub fn first_bad(bytes: &[u8], base: usize, kinds: usize, count: usize) -> usize
         n += 1;
     }
     n
-}
-
-// Whether a contents entry is this section, offset and length.
-pub fn entry_is(bytes: &[u8], at: usize, section: usize, offset: usize, size: usize) -> bool
-    requires { ⌜ at + 6 ≤ length (now bytes) ⌝ }
-    ensures { λ r. ⌜ r ≡ entryIs (now (bytes .entry)) at section offset size ⌝ }
-{
-    (u16_at(bytes, at) == section)
-        & (u16_at(bytes, at + 2) == offset)
-        & (u16_at(bytes, at + 4) == size)
 }
 
 // Whether settings at an offset have 1 to 64 kinds and a start among the nodes.

@@ -7,15 +7,16 @@ use native.Mathlib.Numerals.{add-one}
 use mathlib.Core.Bool.{cond}
 use lib.ListN.{length, getD, length-append, length-replicate, List·getD-append}
 use mathlib.Core.Path.{_≡_, refl, _∙_, ap}
-use mathlib.Core.Logic.{_↔_, _≢_}
+use mathlib.Core.Logic.{_↔_, _≢_, Iff·trans}
 use mathlib.Core.List.{List, _++_}
 use Rattle.words.specs.Words.{zeros}
 use Rattle.book.specs.Form.{DONE, formOf, bookOf}
 use Rattle.book.proofs.Decoded.{Formed, formed}
 use Rattle.grammar.specs.Passing.{Fruitful, NoConflict, Passes}
 use Rattle.verdict.specs.declared.Verdict.{Verdict}
-use Rattle.verdict.specs.Judges.{judgement, Judges, passes}
-use Rattle.verdict.proofs.Passing as verdict
+use Rattle.verdict.specs.Judges.{judgement, Judges}
+use Rattle.verdict.proofs.Passing.{passed as judged-passed, passed-judges, passes-exactly as judged-exactly, verdict-listed}
+use Rattle.verdict.proofs.Some.{judges-some}
 use Rattle.verdict.proofs.Unique.{judges-unique}
 use Rattle.running.specs.Cells.{Marks, Marked, cellOf}
 use Rattle.plan.specs.Form.{rowAt, planSize, cellAt}
@@ -44,22 +45,29 @@ module _ {bytes : List ℕ} {room : ℕ} where
   module _ {a : Compiled} {p : List ℕ} (c : Compiles bytes room a p) (is : a .number ≡ DONE) where
     -- it is of good form
     pub passed-form : formOf bytes .number ≡ DONE
-    passed-form = verdict.passed (passed c is .judges) refl .form
+    passed-form = judged-passed (passed c is .judges) refl .form
 
     -- and passes by the rules
     pub passed-passes : Passes (bookOf bytes)
-    passed-passes = verdict.passed (passed c is .judges) refl .by-rules
+    passed-passes = judged-passed (passed c is .judges) refl .by-rules
 
     -- its plan is the one that the rules give
     pub passed-plan : {marks : Marks} → Marked (bookOf bytes .node) marks → p ≡ planBytes bytes marks ++ zeros (room - sizeOf (bookOf bytes))
     passed-plan marked = rw (marks-unique marked (passed c is .marked)) (passed c is .plan-is)
 
-  -- given plan room enough, compiling says what judging says, of a book that passes
-  room-passes : {a : Compiled} {p : List ℕ} → Compiles bytes room a p → sizeOf (bookOf bytes) ≤ room → Judges bytes (judgement DONE 0 0)
+  done-room : {a : Compiled} {p : List ℕ} → Compiles bytes room a p → sizeOf (bookOf bytes) ≤ room → Judges bytes (judgement DONE 0 0)
       → a .number ≡ DONE
-  room-passes (refused judges bad) fits good = absurd (bad (ap (λ (v : Verdict). v .number) (judges-unique judges good)))
-  room-passes (no-room _ short) fits good = absurd (omega arith)
-  room-passes (done _ _ _) fits good = refl
+  done-room (refused judges bad) fits good = absurd (bad (ap (λ (v : Verdict). v .number) (judges-unique judges good)))
+  done-room (no-room _ short) fits good = absurd (omega arith)
+  done-room (done _ _ _) fits good = refl
+
+  -- given plan room enough, compiling passes a book exactly when judging does
+  pub passes-judged : {a : Compiled} {p : List ℕ} {v : Verdict} → Compiles bytes room a p → Judges bytes v → sizeOf (bookOf bytes) ≤ room
+      → (a .number ≡ DONE) ↔ (v .number ≡ DONE)
+  passes-judged c judges fits = (
+    (λ is. ap (λ (v : Verdict). v .number) (judges-unique judges (passed c is .judges))),
+    (λ is. done-room c fits (passed-judges judges is)),
+  )
 
   -- given plan room enough, a well-formed book passes exactly when its start can produce some run and no reachable node has a conflict
   pub passes-exactly : {a : Compiled} {p : List ℕ}
@@ -67,20 +75,17 @@ module _ {bytes : List ℕ} {room : ℕ} where
       → formOf bytes .number ≡ DONE
       → sizeOf (bookOf bytes) ≤ room
       → (a .number ≡ DONE) ↔ (Fruitful (bookOf bytes) × NoConflict (bookOf bytes))
-  passes-exactly c form fits = (
-    (λ is. let by-rules = passed-passes c is in (by-rules .productive, by-rules .no-conflict)),
-    (λ h. room-passes c fits (passes form (h .0) (h .1))),
-  )
+  passes-exactly c form fits = let judges = judges-some bytes .1 in Iff·trans (passes-judged c judges fits) (judged-exactly judges form)
 
 -- the size of the plan of a book that passes
 plan-small : (bytes : List ℕ) → Judges bytes (judgement DONE 0 0) → sizeOf (bookOf bytes) ≤ 36376
 plan-small bytes judges =
-    let book = verdict.passed judges refl .by-rules .well-formed in
+    let book = judged-passed judges refl .by-rules .well-formed in
     size-small (bookOf bytes .count) (bookOf bytes .kinds) (book .few-nodes) (book .few-kinds)
 
 -- every answer's number is on the list: 0 to 7
 pub answer-listed : {bytes : List ℕ} {room : ℕ} {a : Compiled} {p : List ℕ} → Compiles bytes room a p → a .number ≤ PLAN-ROOM
-answer-listed (refused judges _) = omega (arith, verdict.verdict-listed judges)
+answer-listed (refused judges _) = omega (arith, verdict-listed judges)
 answer-listed (no-room _ _) = omega arith
 answer-listed (done _ _ _) = omega arith
 
@@ -101,8 +106,8 @@ pub room-short : {bytes : List ℕ} {room : ℕ} {a : Compiled} {p : List ℕ}
     → Compiles bytes room a p
     → a .number ≡ PLAN-ROOM
     → (formOf bytes .number ≡ DONE) × (room < sizeOf (bookOf bytes))
-room-short (refused judges _) is = absurd (omega (arith, verdict.verdict-listed judges))
-room-short (no-room judges short) is = (verdict.passed judges refl .form, short)
+room-short (refused judges _) is = absurd (omega (arith, verdict-listed judges))
+room-short (no-room judges short) is = (judged-passed judges refl .form, short)
 room-short (done _ _ _) is = absurd (omega arith)
 
 -- a refusal leaves the plan buffer as zeros
@@ -122,7 +127,7 @@ room-kept {room = room} (refused _ _) = length-replicate room 0
 room-kept {room = room} (no-room _ _) = length-replicate room 0
 room-kept {bytes} {room} (done {marks} judges fits _) =
     length-append (planBytes bytes marks) (zeros (room - sizeOf (bookOf bytes)))
-    ∙ omega (arith, plan-long bytes marks (formed bytes (verdict.passed judges refl .form)), length-replicate {A = ℕ} (room - sizeOf (bookOf bytes)) 0)
+    ∙ omega (arith, plan-long bytes marks (formed bytes (judged-passed judges refl .form)), length-replicate {A = ℕ} (room - sizeOf (bookOf bytes)) 0)
 
 -- the cells of a plan stand within it
 cell-within : (count kinds n column : ℕ) → n < count → column < kinds + 1 → rowAt count kinds n + column < planSize count kinds

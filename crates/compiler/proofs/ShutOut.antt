@@ -6,13 +6,13 @@ use lib.ListN.{getD}
 use mathlib.Core.Path.{_≡_, refl, sym, _∙_, ap}
 use mathlib.Core.Logic.{_≢_}
 use mathlib.Core.List.{List, [], _∷_, _++_}
-use Rattle.words.specs.Words.{u16At, zeros}
+use Rattle.words.specs.Words.{u16At, wordBytes, zeros}
 use Rattle.book.specs.Decode.{nodes, nodeAt, nodeGood, firstBad}
 use Rattle.book.specs.Form.{DONE, formOf, bookOf}
 use Rattle.grammar.specs.Rules.{p-empty}
 use Rattle.rules.proofs.Growing.{blank-zeros}
 use Rattle.running.specs.Cells.{Marks}
-use Rattle.writer.specs.Bytes.{planBytes, planContents, wordBytes}
+use Rattle.writer.specs.Bytes.{planBytes, planContents}
 use Rattle.compiler.specs.declared.Compiled.{Compiled}
 use Rattle.grammar.specs.Passing.{Fruitful, NoConflict}
 use Rattle.compiler.specs.Compiles.{Compiles, sizeOf}

@@ -25,12 +25,12 @@ module _ (book : Book) (wf : WellFormed book) where
 
 module _ (bytes : List ℕ) (room : ℕ) where
   -- an answer that compiling may come to
-  abbrev Answered : Type 0
+  abbrev pub Answered : Type 0
   Answered = (a : Compiled) × (p : List ℕ) × Compiles bytes room a p
 
-  judged : (v : Verdict) → Judges bytes v → Dec (v .number ≡ DONE) → Answered
-  judged v judges (no bad) = (_, _, refused judges bad)
-  judged v judges (yes is) =
+  unfoldable pub by-verdict : (v : Verdict) → Judges bytes v → Dec (v .number ≡ DONE) → Answered
+  by-verdict v judges (no bad) = (_, _, refused judges bad)
+  by-verdict v judges (yes is) =
       let good = passed-judges judges is in
       elim (decLt room (sizeOf (bookOf bytes))) [
         | yes short ↦ (_, _, no-room good short)
@@ -38,5 +38,5 @@ module _ (bytes : List ℕ) (room : ℕ) where
       ]
 
   -- compiling has an answer
-  pub compiles-some : (a : Compiled) × (p : List ℕ) × Compiles bytes room a p
-  compiles-some = let some = judges-some bytes in judged (some .0) (some .1) (ℕ-discrete (some .0 .number) DONE)
+  unfoldable pub compiles-some : (a : Compiled) × (p : List ℕ) × Compiles bytes room a p
+  compiles-some = let some = judges-some bytes in by-verdict (some .0) (some .1) (ℕ-discrete (some .0 .number) DONE)

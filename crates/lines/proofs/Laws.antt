@@ -1,7 +1,7 @@
 -- Laws of bytes put into a buffer, of decimal digits and of record lines.
 use Prim.Native.Nat.{ℕ, zero, suc, _+_, _-_, _/_, _^_, _≤_, _<_}
 use native.Mathlib.Omega.{arith}
-use native.Mathlib.Nat.{add-suc, suc-add, add-zero, add-assoc}
+use native.Mathlib.Nat.{add-assoc}
 use native.Mathlib.Numerals.{add-one}
 use mathlib.Core.Path.{_≡_, refl, sym, ap, _∙_}
 use mathlib.Core.Bool.{Bool, true, false}
@@ -10,14 +10,10 @@ use lib.Dec.{ltb}
 use lib.ListN.{length, getD, set, take, drop, length-append}
 use lib.Seq.{sets, length-sets, sets-eq, take-suc, take-all, take-at, drop-at}
 use borrow.Author.Tests.{lt-ltb, le-ltb, ltb-true, ltb-false}
+use Rattle.words.proofs.Stored.{sets-then}
 use Rattle.lines.specs.Lines.{Put, digit, digitsBy, digitsOf, spaced, recordText, recordLine, recordLines}
 
 -- ---- bytes put into a buffer
-
--- one run of stores after another is one run
-pub sets-append : (xs ys out : List ℕ) (at : ℕ) → sets out at (xs ++ ys) ≡ sets (sets out at xs) (at + length xs) ys
-sets-append [] ys out at = rw add-zero
-sets-append (x ∷ xs) ys out at = rw (sets-append xs ys (set out at x) (suc at), add-suc, suc-add)
 
 pub put-none : (out : List ℕ) (at : ℕ) → at ≤ length out → Put out out at at []
 put-none out at room = record { moved = omega arith; within = room; is = refl }
@@ -35,7 +31,7 @@ module _ {out mid : List ℕ} {at next : ℕ} {xs : List ℕ} (p : Put out mid a
       record {
         moved = rw length-append (omega (arith, p .moved, q .moved));
         within = omega (arith, put-length, q .within);
-        is = rw (sets-append xs ys out at, ← p .is, ← p .moved) (q .is);
+        is = q .is ∙ ap (λ (l : List ℕ). sets l next ys) (p .is) ∙ sets-then out at xs next ys (p .moved);
       }
 
 -- a buffer into which bytes were put at its front

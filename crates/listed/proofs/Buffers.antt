@@ -5,10 +5,10 @@ use mathlib.Core.Path.{_≡_, refl, sym, ap, ap₂, _∙_}
 use mathlib.Core.Bool.{Bool, true, false}
 use mathlib.Core.List.{List, _++_}
 use lib.Dec.{leb, eqb}
-use lib.ListN.{length, take, drop, length-take, take-append-drop}
+use lib.ListN.{length, take, drop, take-append-drop}
 use lib.Seq.{take-all, length-take-le}
 use borrow.Author.Tests.{leb-true, le-leb, eqb-true, eq-eqb}
-use Rattle.words.proofs.Tests.{both, joined, never}
+use Rattle.words.proofs.Tests.{both, never}
 use Rattle.book.specs.Form.{DONE}
 use Rattle.reader.specs.Reads.{Outcome}
 use Rattle.lines.specs.Lines.{refusedLine, acceptedLines}
@@ -25,7 +25,6 @@ use Rattle.listed.specs.Listing.{
   too-short,
   book-refused,
   run-read,
-  Lent,
   Listed,
   ReadInto,
   suffices,
@@ -92,6 +91,10 @@ lists-bytes (book-refused _ _ _) = omega arith
 lists-bytes (run-read _ _ _) = readingLines-some _ _
 
 module _ {input before : List ℕ} where
+  -- as many bytes as are counted
+  front : {after : List ℕ} {count : ℕ} → Listed input before after count → count ≡ length (take count after)
+  front {after} {count} listed = sym (length-take-le count after (listed .within))
+
   whole : {after : List ℕ} {count : ℕ} → Listed input before after count → after ≡ take count after ++ drop count before
   whole {after} {count} listed = sym (take-append-drop count after) ∙ ap (λ (rest : List ℕ). take count after ++ rest) (listed .rest)
 
@@ -102,7 +105,7 @@ module _ {input before : List ℕ} where
       → (count ≡ count′) × (after ≡ after′)
   listed-unique {count = count} {count′} one other =
       let same = lists-unique (one .lists) (other .lists) in
-      let counts : count ≡ count′ = one .front ∙ ap length same ∙ sym (other .front) in
+      let counts : count ≡ count′ = front one ∙ ap length same ∙ sym (front other) in
       (counts, whole one ∙ ap₂ (λ (bytes : List ℕ) (n : ℕ). bytes ++ drop n before) same counts ∙ sym (whole other))
 
 -- ---- what was read
@@ -116,7 +119,6 @@ pub read-listed : {input buffer out after : List ℕ} {size count : ℕ}
 read-listed {input} {buffer} decides listed read =
     record {
       within = listed .within;
-      front = listed .front;
       lists = lists-front (length buffer) input decides (rw (read .front) at (listed .lists));
       rest = listed .rest;
     }
@@ -150,7 +152,7 @@ module _ (buffer : List ℕ) (size : ℕ) (out plan held tree : List ℕ) where
     pub answers-some : Fits → Answers buffer size out plan held tree after count → (0 < count) × (count ≤ length after)
     answers-some fits answers =
         let listed = answers .listed (enough-suffices fits) _ (read-itself buffer size (fits .read)) in
-        (omega (arith, listed .front, lists-bytes (listed .lists)), listed .within)
+        (omega (arith, front listed, lists-bytes (listed .lists)), listed .within)
 
     -- the answer and the output after it are determined
     pub answers-unique : {after′ : List ℕ} {count′ : ℕ}

@@ -1,11 +1,11 @@
 -- Laws of inputs that are whole, and of what the program writes for an input.
 use Prim.Native.Nat.{ℕ, _+_, _-_, _≤_}
 use native.Mathlib.Omega.{arith}
-use mathlib.Core.Path.{_≡_, refl, sym, ap, _∙_}
+use mathlib.Core.Path.{_≡_, refl, ap, _∙_}
 use mathlib.Core.Bool.{Bool, true, false, cond}
 use mathlib.Core.List.{List}
 use lib.ListN.{length, take, drop, length-drop}
-use lib.Seq.{take-all, length-take-le}
+use lib.Seq.{take-all}
 use borrow.Author.Tests.{ltb-false}
 use Rattle.words.specs.Words.{u16At}
 use Rattle.book.specs.Form.{DONE}
@@ -61,7 +61,6 @@ put-listed {end = end} {last = last} p lists =
     let room : last ≤ length end = omega (arith, put-length p, p .within) in
     record {
       within = room;
-      front = sym (length-take-le last end room);
       lists = rw (put-taken p) lists;
       rest = put-rest p;
     }

@@ -114,7 +114,6 @@ pub record Lent (out plan held tree : List ℕ) : Type 0 where
 -- the front of an output, so many bytes, is what the program writes for an input, and the rest is as it was
 pub record Listed (input before after : List ℕ) (count : ℕ) : Type 0 where
   pub within : count ≤ length after
-  pub front : count ≡ length (take count after)
   pub lists : Lists input (take count after)
   pub rest : drop count after ≡ drop count before
 

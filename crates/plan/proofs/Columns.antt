@@ -7,7 +7,7 @@ use native.Mathlib.Nat.{le-refl, le-antisymm}
 use borrow.Author.Tests.{lt-ltb, le-ltb}
 use lib.Dec.{leb, eqb}
 use lib.ListN.{getD}
-use Rattle.plan.specs.Form.{columnGood}
+use Rattle.plan.specs.Rows.{columnGood}
 
 module _ (bytes : List ℕ) (row-at kinds one other : ℕ) {cell : ℕ} {test : Bool} where
   pub kind-column : {column : ℕ} → column < kinds → cell ≡ getD bytes (row-at + column) 0

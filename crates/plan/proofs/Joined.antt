@@ -9,7 +9,7 @@ use lib.Dec.{ltb}
 use Rattle.words.proofs.Tests.{fails}
 use Rattle.book.specs.Decode.{firstBad}
 use Rattle.book.proofs.FirstBad.{first-none}
-use Rattle.plan.proofs.Laws.{first-all}
+use Rattle.plan.proofs.Searches.{first-all}
 
 -- a test has been joined from those of the numbers below a count
 pub record Joined (good : ℕ → Bool) (count : ℕ) (all : Bool) : Type 0 where

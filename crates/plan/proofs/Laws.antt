@@ -1,33 +1,29 @@
 -- Laws of the form of a plan: what its tests have shown, and the answer by each test.
-use mathlib.Core.Path.{_≡_, refl, sym, ap, _∙_}
-use mathlib.Core.Bool.{Bool, true, false, _&&_, _||_}
+use mathlib.Core.Path.{_≡_, refl, sym, ap, subst, _∙_}
+use mathlib.Core.Bool.{Bool, true, false, _&&_, _||_, cond}
 use mathlib.Core.Logic.{_⊎_, inl, inr, ⊎-elim}
 use mathlib.Core.List.{List}
-use Prim.Native.Nat.{ℕ, zero, suc, _+_, _≤_, _<_}
-use native.Mathlib.Nat.{zero-add, add-zero, le-of-eq, mul-le-mul}
+use Prim.Native.Nat.{ℕ, _+_, _*_, _/_, _%_, _≤_, _<_}
+use native.Mathlib.Decide.{decLt}
+use native.Mathlib.Nat.{le-refl, le-of-eq, mul-le-mul, mod-lt, div-add-mod', div-lt-iff-lt-mul}
 use native.Mathlib.Omega.{arith}
-use borrow.Author.Tests.{ltb-true, ltb-false, leb-true, eqb-true, ne-eqb, lt-ltb, le-ltb}
+use borrow.Author.Tests.{ltb-true, ltb-false, leb-true, eqb-true, ne-eqb, lt-ltb, le-ltb, le-leb}
+use lib.Arith.{digits-lt, digits-div, digits-mod}
 use lib.Dec.{ltb, leb, eqb}
 use lib.ListN.{length, getD}
-use Rattle.words.proofs.Tests.{both, holds, fails}
-use Rattle.book.specs.Decode.{nodeAt, nodes, GoodNodes, firstBad}
+use Rattle.words.proofs.Tests.{both, holds, fails, or-cases}
+use Rattle.forms.specs.Forms.{contentsAre}
+use Rattle.book.specs.Decode.{nodeAt, nodes, GoodNodes}
 use Rattle.book.specs.Form.{judged, DONE, settingsGood}
 use Rattle.book.specs.declared.Judged.{Judged}
 use Rattle.book.specs.declared.Node.{Node}
+use Rattle.book.specs.declared.Node.the-variants.{Fail, Empty, Token, Either, Then, Tagged, Ref}
 use Rattle.book.proofs.FirstBad.{first-none}
 use Rattle.book.proofs.Decoded.{good-nodes, nodes-below}
-use Rattle.plan.specs.Form.{PLAN-FORM, planSettingsAt, planNodesAt, rowAt, planSize, planCount, planKinds, planStart, cellAt}
-use Rattle.plan.specs.Form.{sizeGood, planContentsGood, planGood, oneCell, otherCell, columnGood, badColumn, badIn, rowGood, cellsForm, cellsJudged, planJudged}
-
--- a search where all is good finds none
-pub first-all : (good : ℕ → Bool) (count : ℕ) → ((n : ℕ) → n < count → good n ≡ true) → firstBad good count 0 ≡ count
-unfolding firstBad
-first-all good count all = go count 0 (λ n from below. all n (omega arith)) ∙ zero-add count
-  where
-    go : (left n : ℕ) → ((m : ℕ) → n ≤ m → m < n + left → good m ≡ true) → firstBad good left n ≡ n + left
-    go zero n every = sym (add-zero n)
-    go (suc left) n every =
-        rw (every n (omega arith) (omega arith)) (go left (suc n) (λ m from below. every m (omega arith) (omega arith)) ∙ omega arith)
+use Rattle.plan.specs.Form.{PLAN-FORM, CELL, planSections, planSettingsAt, planNodesAt, rowsAt, rowAt, planSize}
+use Rattle.plan.specs.Form.{planCount, planKinds, planStart, cellAt, sizeGood, planGood, hasCell, cellGood, cellsJudged, planJudged}
+use Rattle.plan.specs.Rows.{oneCell, otherCell}
+use Rattle.plan.proofs.Searches.{first-all}
 
 -- the size of a plan of good count and kinds
 pub size-small : (count kinds : ℕ) → count ≤ 512 → kinds ≤ 64 → planSize count kinds ≤ 36376
@@ -48,7 +44,7 @@ sized size count kinds good =
 -- what the tests of a plan of good form have shown, cells aside
 pub record Formed (bytes : List ℕ) : Type 0 where
   pub size : Sized (length bytes) (planCount bytes) (planKinds bytes)
-  pub contents : planContentsGood bytes (planCount bytes) (planKinds bytes) ≡ true
+  pub contents : contentsAre bytes (planSections (planCount bytes) (planKinds bytes)) ≡ true
   pub some-kind : 0 < planKinds bytes
   pub few-kinds : planKinds bytes ≤ 64
   pub start-below : planStart bytes < planCount bytes
@@ -58,8 +54,8 @@ pub formed : (bytes : List ℕ) → planGood bytes (planCount bytes) (planKinds 
 unfolding planGood planKinds planStart
 formed bytes good =
     let (long, rest) = both (sizeGood (length bytes) (planCount bytes) (planKinds bytes)) _ good in
-    let (front, all) = both (planContentsGood bytes (planCount bytes) (planKinds bytes) && settingsGood bytes planSettingsAt (planCount bytes)) _ rest in
-    let (contents, settings) = both (planContentsGood bytes (planCount bytes) (planKinds bytes)) _ front in
+    let (front, all) = both (contentsAre bytes (planSections (planCount bytes) (planKinds bytes)) && settingsGood bytes planSettingsAt (planCount bytes)) _ rest in
+    let (contents, settings) = both (contentsAre bytes (planSections (planCount bytes) (planKinds bytes))) _ front in
     let (ends, below) = both (leb 1 (planKinds bytes) && leb (planKinds bytes) 64) _ settings in
     let (least, most) = both (leb 1 (planKinds bytes)) _ ends in
     let size = sized (length bytes) (planCount bytes) (planKinds bytes) long in
@@ -88,18 +84,33 @@ short-bad bytes count kinds short = rw (ne-eqb (length bytes) (planSize count ki
 abbrev pub Legal : Node → ℕ → Type 0
 Legal node cell = (cell ≡ 0) ⊎ ((cell ≡ oneCell node) ⊎ (cell ≡ otherCell node))
 
--- one of two joined tests holds
-pub or-cases : (a b : Bool) → (a || b) ≡ true → (a ≡ true) ⊎ (b ≡ true)
-or-cases true b is = inl refl
-or-cases false b is = inr is
+-- a test joined with itself
+again : (a b : Bool) → (a || b) ≡ (a || b || b)
+again true b = refl
+again false true = refl
+again false false = refl
 
-legal-cell : (cell one other : ℕ) → (eqb cell 0 || eqb cell one || eqb cell other) ≡ true
-    → (cell ≡ 0) ⊎ ((cell ≡ one) ⊎ (cell ≡ other))
-legal-cell cell one other is =
-    ⊎-elim
-    (λ front. ⊎-elim (λ none. inl (eqb-true cell 0 none)) (λ first. inr (inl (eqb-true cell one first))) (or-cases (eqb cell 0) (eqb cell one) front))
-    (λ last. inr (inr (eqb-true cell other last)))
-    (or-cases (eqb cell 0 || eqb cell one) (eqb cell other) is)
+thrice : (a : Bool) → a ≡ (a || a || a)
+thrice true = refl
+thrice false = refl
+
+-- a cell that a node's type has is 0 or one of its two
+module _ (cell : ℕ) where
+  pub has-cell : (node : Node) → hasCell node cell ≡ (eqb cell 0 || eqb cell (oneCell node) || eqb cell (otherCell node))
+  has-cell Fail = thrice (eqb cell 0)
+  has-cell Empty = thrice (eqb cell 0)
+  has-cell (Token k) = again (eqb cell 0) (eqb cell 1)
+  has-cell (Either l r) = refl
+  has-cell (Then l r) = refl
+  has-cell (Tagged l t) = again (eqb cell 0) (eqb cell 2)
+  has-cell (Ref l) = again (eqb cell 0) (eqb cell 2)
+
+  legal-cell : (node : Node) → hasCell node cell ≡ true → Legal node cell
+  legal-cell node has =
+      ⊎-elim
+      (λ front. ⊎-elim (λ none. inl (eqb-true cell 0 none)) (λ first. inr (inl (eqb-true cell _ first))) (or-cases (eqb cell 0) _ front))
+      (λ last. inr (inr (eqb-true cell _ last)))
+      (or-cases (eqb cell 0 || eqb cell (oneCell node)) (eqb cell (otherCell node)) (sym (has-cell node) ∙ has))
 
 -- what the tests of a plan that is judged done have shown
 pub record Done (bytes : List ℕ) : Type 0 where
@@ -119,61 +130,78 @@ module _ (bytes : List ℕ) where
   unfolding planJudged
   judged-cells good = rw good
 
--- a cell whose column is good is legal, and a last cell at most 1
-module _ (bytes : List ℕ) (row-at kinds : ℕ) (node : Node) where
-  pub column-legal : (k : ℕ) → k < kinds → columnGood bytes row-at kinds (oneCell node) (otherCell node) k ≡ true
-      → Legal node (getD bytes (row-at + k) 0)
-  unfolding columnGood
-  column-legal k below good = legal-cell _ _ _ (rw (lt-ltb k kinds below) at good)
-
-  pub column-last : columnGood bytes row-at kinds (oneCell node) (otherCell node) kinds ≡ true
-      → getD bytes (row-at + kinds) 0 ≤ 1
-  unfolding columnGood
-  column-last good = leb-true _ _ (rw (le-ltb kinds kinds (omega arith)) at good)
-
--- the cells are judged done exactly if every column of every row is good
+-- the cells are judged done exactly if each is good
 module _ (bytes : List ℕ) (count kinds : ℕ) where
-  -- whether the column of the row with a number is good
-  abbrev pub cellGood : ℕ → ℕ → Bool
-  cellGood n column =
-      let node = nodeAt bytes planNodesAt n in
-      columnGood bytes (rowAt count kinds n) kinds (oneCell node) (otherCell node) column
+  -- every cell for a kind is one that its node's type has, every last cell 0 or 1
+  pub record CellsGood : Type 0 where
+    pub kind-cell : (n k : ℕ) → n < count → k < kinds → hasCell (nodeAt bytes planNodesAt n) (cellAt bytes count kinds n k) ≡ true
+    pub last-cell : (n : ℕ) → n < count → cellAt bytes count kinds n kinds ≤ 1
 
-  pub cells-good : cellsJudged bytes count kinds .number ≡ DONE → (n column : ℕ) → n < count → column < kinds + 1
-      → cellGood n column ≡ true
-  unfolding cellsJudged badColumn
-  cells-good is n column below within =
-      first-none (cellGood n) (kinds + 1) (omega (arith, ltb-true kinds (badIn bytes count kinds n) (row-good n below))) column within
+  -- how many cells there are
+  abbrev all : ℕ
+  all = count * (kinds + 1)
+
+  -- the test of a cell by its row, its column and its offset
+  abbrev pub testAt : ℕ → ℕ → ℕ → Bool
+  testAt n column at =
+      cond (ltb column kinds) (hasCell (nodeAt bytes planNodesAt n) (getD bytes at 0)) (leb (getD bytes at 0) 1)
+
+  -- the cell in a column of a row, by its place
+  pub place-test : (n column : ℕ) → column < kinds + 1
+      → cellGood bytes count kinds (n * (kinds + 1) + column) ≡ testAt n column (rowAt count kinds n + column)
+  unfolding cellGood
+  place-test n column within = λ i. testAt (digits-div n within i) (digits-mod n within i) (offset i)
     where
-      none-bad : (row : ℕ) → cellsForm bytes count kinds row .number ≡ DONE → ltb row count ≡ false
-      none-bad row done = fails _ (λ bad. let z : _≡_ {A = ℕ} 9 0 = rw bad at done in omega arith)
+      offset : rowsAt count + (n * (kinds + 1) + column) ≡ rowAt count kinds n + column
+      offset = omega arith
 
-      row-good : (m : ℕ) → m < count → rowGood bytes count kinds m ≡ true
-      row-good = first-none (rowGood bytes count kinds) count (ltb-false _ _ (none-bad _ is))
-
-  pub cells-done : ((n column : ℕ) → n < count → column < kinds + 1 → cellGood n column ≡ true)
-      → cellsJudged bytes count kinds ≡ judged DONE 0
-  unfolding cellsJudged badColumn
-  cells-done good = rw (le-ltb _ count (le-of-eq (sym (first-all _ count row-good))))
+  pub cells-good : cellsJudged bytes count kinds .number ≡ DONE → CellsGood
+  unfolding cellsJudged cellAt
+  cells-good is =
+      record {
+        kind-cell = λ n k below kind. rw (lt-ltb k kinds kind) at (tested n k below (omega arith));
+        last-cell = λ n below. leb-true _ _ (rw (le-ltb kinds kinds (le-refl kinds)) at (tested n kinds below (omega arith)));
+      }
     where
-      row-good : (m : ℕ) → m < count → rowGood bytes count kinds m ≡ true
-      row-good m below =
-          lt-ltb kinds (badIn bytes count kinds m) (omega (arith, first-all (cellGood m) (kinds + 1) (λ column within. good m column below within)))
+      none-bad : (bad : ℕ) → cond (ltb bad all) (judged CELL bad) (judged DONE 0) .number ≡ DONE → ltb bad all ≡ false
+      none-bad bad done = fails _ (λ found. let z : _≡_ {A = ℕ} CELL DONE = rw found at done in omega arith)
+
+      tested : (n column : ℕ) → n < count → column < kinds + 1 → testAt n column (rowAt count kinds n + column) ≡ true
+      tested n column below within =
+          sym (place-test n column within) ∙ first-none _ all (ltb-false _ _ (none-bad _ is)) _ (digits-lt {q = n} {m = count} below within)
+
+  pub cells-done : CellsGood → cellsJudged bytes count kinds ≡ judged DONE 0
+  unfolding cellsJudged cellAt
+  cells-done good = rw (le-ltb _ all (le-of-eq (sym (first-all _ all each))))
+    where
+      tested : (n column : ℕ) → n < count → column < kinds + 1 → testAt n column (rowAt count kinds n + column) ≡ true
+      tested n column below within =
+          elim (decLt column kinds) [
+            | yes kind ↦ rw (lt-ltb column kinds kind) (good .kind-cell n column below kind)
+            | no past ↦
+                let last : column ≡ kinds = omega arith in
+                rw (last, le-ltb kinds kinds (le-refl kinds)) (le-leb _ 1 (good .last-cell n below))
+          ]
+
+      each : (place : ℕ) → place < all → cellGood bytes count kinds place ≡ true
+      each place below =
+          let row = place / (kinds + 1) in
+          let column = place % (kinds + 1) in
+          let within : column < kinds + 1 = mod-lt place (omega arith) in
+          subst (λ p. cellGood bytes count kinds p ≡ true) (div-add-mod' place (kinds + 1))
+          (place-test row column within ∙ tested row column (div-lt-iff-lt-mul {k = kinds + 1} {x = place} {y = count} (omega arith) .1 below) within)
 
 -- what a plan that is judged done has shown
 pub done : (bytes : List ℕ) → planJudged bytes .number ≡ DONE → Done bytes
-unfolding cellAt
 done bytes is =
     record {
       formed-is = formed bytes form;
-      cell-legal =
-          λ n k below kind.
-          rw nodes-below (column-legal bytes _ _ (nodeAt bytes planNodesAt n) k kind (good n k below (omega arith)));
-      last-mark = λ n below. column-last bytes _ _ (nodeAt bytes planNodesAt n) (good n (planKinds bytes) below (omega arith));
+      cell-legal = λ n k below kind. rw nodes-below (legal-cell _ (nodeAt bytes planNodesAt n) (cells .kind-cell n k below kind));
+      last-mark = cells .last-cell;
     }
   where
     form : planGood bytes (planCount bytes) (planKinds bytes) ≡ true
-    form = holds _ (λ bad. let z : _≡_ {A = ℕ} 8 0 = sym (ap (λ (j : Judged). j .number) (judged-form bytes bad)) ∙ is in omega arith)
+    form = holds _ (λ bad. let z : _≡_ {A = ℕ} PLAN-FORM DONE = sym (ap (λ (j : Judged). j .number) (judged-form bytes bad)) ∙ is in omega arith)
 
-    good : (n column : ℕ) → n < planCount bytes → column < planKinds bytes + 1 → cellGood bytes (planCount bytes) (planKinds bytes) n column ≡ true
-    good = cells-good bytes _ _ (sym (ap (λ (j : Judged). j .number) (judged-cells bytes form)) ∙ is)
+    cells : CellsGood bytes (planCount bytes) (planKinds bytes)
+    cells = cells-good bytes _ _ (sym (ap (λ (j : Judged). j .number) (judged-cells bytes form)) ∙ is)

@@ -4,3 +4,4 @@ mod Joined
 pub mod Laws
 pub mod Rows
 pub mod Runnable
+pub mod Searches

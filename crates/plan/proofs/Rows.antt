@@ -1,17 +1,24 @@
 -- The rows of a plan: where they begin, and how the search for a bad cell goes from row to row.
 use mathlib.Core.Path.{_≡_, sym, ap, _∙_}
-use mathlib.Core.Bool.{true, false}
+use mathlib.Core.Bool.{Bool, true, false, cond}
 use mathlib.Core.List.{List}
 use Prim.Native.Nat.{ℕ, _+_, _*_, _-_, _≤_, _<_}
-use native.Mathlib.Nat.{zero-mul, add-mul, mul-le-mul-right}
+use native.Mathlib.Decide.{decLt}
+use native.Mathlib.Nat.{le-refl, zero-mul, add-mul, mul-le-mul-right}
 use native.Mathlib.Numerals.{add-one}
 use native.Mathlib.Omega.{arith}
-use borrow.Author.Tests.{lt-ltb, le-ltb}
+use borrow.Author.Tests.{ltb-true, ltb-false, lt-ltb, le-ltb}
+use lib.Arith.{digits-lt}
+use lib.Dec.{ltb, leb}
+use lib.ListN.{getD}
 use Rattle.book.specs.Form.{judged, DONE}
-use Rattle.book.specs.Decode.{nodeAt}
+use Rattle.book.specs.Decode.{nodeAt, firstBad}
 use Rattle.book.specs.declared.Node.{Node}
-use Rattle.book.proofs.FirstBad.{Searched, searched-none, searched-more, searched-bad, searched-all}
-use Rattle.plan.specs.Form.{rowsAt, rowAt, planSize, planNodesAt, oneCell, otherCell, badColumn, badIn, rowGood, cellsJudged, CELL}
+use Rattle.book.proofs.FirstBad.{first-none}
+use Rattle.plan.specs.Form.{CELL, planNodesAt, rowsAt, rowAt, planSize, cellGood, cellsJudged}
+use Rattle.plan.specs.Rows.{oneCell, otherCell, columnGood, badColumn}
+use Rattle.plan.proofs.Laws.{has-cell, place-test}
+use Rattle.plan.proofs.Searches.{Found, found, first-is, first-all}
 
 module _ (count kinds : ℕ) where
   -- the first row begins where the rows do
@@ -30,32 +37,89 @@ module _ (count kinds : ℕ) where
   row-within {n} below = omega (arith, next-row n, mul-le-mul-right (kinds + 1) below, add-one n)
 
   module _ (bytes : List ℕ) where
+    abbrev good : ℕ → Bool
+    good = cellGood bytes count kinds
+
+    -- two cells are those that the type of a row's node has beside 0
+    pub record CellsOf (n one other : ℕ) : Type 0 where
+      pub one-is : one ≡ oneCell (nodeAt bytes planNodesAt n)
+      pub other-is : other ≡ otherCell (nodeAt bytes planNodesAt n)
+
+    pub cells-of : {n one other : ℕ} {node : Node} → node ≡ nodeAt bytes planNodesAt n → one ≡ oneCell node → other ≡ otherCell node
+        → CellsOf n one other
+    cells-of node-is one-is other-is = record { one-is = one-is ∙ ap oneCell node-is; other-is = other-is ∙ ap otherCell node-is }
+
     -- a search that has come to the row n, which begins at an offset
     pub record RowsSearched (at n : ℕ) : Type 0 where
-      pub searched : Searched (rowGood bytes count kinds) count n
+      pub passed : (place : ℕ) → place < n * (kinds + 1) → good place ≡ true
       pub at-is : at ≡ rowAt count kinds n
 
     pub rows-none : RowsSearched (rowsAt count) 0
-    rows-none = record { searched = searched-none _ _; at-is = first-row }
+    rows-none = record { passed = λ place below. absurd (omega (arith, zero-mul (kinds + 1))); at-is = first-row }
 
-    module _ {at n : ℕ} (s : RowsSearched at n) where
-      -- the first bad column in a row of a node, by the cells that the node's type has
-      pub found-is : {one other : ℕ} {node : Node} → node ≡ nodeAt bytes planNodesAt n → one ≡ oneCell node → other ≡ otherCell node
-          → badColumn bytes at kinds one other ≡ badIn bytes count kinds n
-      found-is node-is one-is other-is = rw (other-is, one-is, node-is, s .at-is)
+    module _ {at n one other : ℕ} (s : RowsSearched at n) (below : n < count) (cells : CellsOf n one other) where
+      -- a row's columns are tested as its cells
+      column-is : (column : ℕ) → column < kinds + 1 → good (n * (kinds + 1) + column) ≡ columnGood bytes at kinds one other column
+      unfolding columnGood
+      column-is column within =
+          let cell = getD bytes (rowAt count kinds n + column) 0 in
+          rw (s .at-is, cells .one-is, cells .other-is)
+          (place-test bytes count kinds n column within
+          ∙ ap (λ (b : Bool). cond (ltb column kinds) b (leb cell 1)) (has-cell cell (nodeAt bytes planNodesAt n)))
 
-      module _ (below : n < count) where
-        pub rows-more : rowGood bytes count kinds n ≡ true → RowsSearched (at + (kinds + 1)) (n + 1)
-        rows-more good = record { searched = searched-more _ (s .searched) below good; at-is = next-at n (s .at-is) }
+      -- what holds of the cells of all rows before, and of some columns of a row, holds of all cells up to there
+      up-to : (columns : ℕ) → columns ≤ kinds + 1 → ((column : ℕ) → column < columns → columnGood bytes at kinds one other column ≡ true)
+          → (place : ℕ) → place < n * (kinds + 1) + columns → good place ≡ true
+      up-to columns most tested place before =
+          elim (decLt place (n * (kinds + 1))) [
+            | yes earlier ↦ s .passed place earlier
+            | no past ↦
+                let column = place - n * (kinds + 1) in
+                let place-is : place ≡ n * (kinds + 1) + column = omega arith in
+                rw place-is (column-is column (omega arith) ∙ tested column (omega arith))
+          ]
 
-        pub rows-bad : {column : ℕ} → rowGood bytes count kinds n ≡ false → column ≡ badIn bytes count kinds n
-            → judged CELL (at - rowsAt count + column) ≡ cellsJudged bytes count kinds
-        unfolding cellsJudged
-        rows-bad {column} bad found = rw (← searched-bad _ (s .searched) below bad, lt-ltb _ _ below) (ap (judged CELL) place-is)
-          where
-            place-is : at - rowsAt count + column ≡ n * (kinds + 1) + badIn bytes count kinds n
-            place-is = let at-is = s .at-is in omega arith
+      pub rows-more : {test : Bool} → test ≡ ltb kinds (badColumn bytes at kinds one other) → test ≡ true
+          → RowsSearched (at + (kinds + 1)) (n + 1)
+      unfolding badColumn
+      rows-more test-is none-bad =
+          record {
+            passed =
+                λ place before.
+                up-to (kinds + 1) (omega arith)
+                (first-none (columnGood bytes at kinds one other) (kinds + 1) (omega (arith, ltb-true kinds _ (sym test-is ∙ none-bad))))
+                place (omega (arith, add-mul n 1 (kinds + 1)));
+            at-is = next-at n (s .at-is);
+          }
 
-      pub rows-all : count ≤ n → judged DONE 0 ≡ cellsJudged bytes count kinds
-      unfolding cellsJudged
-      rows-all past = rw (← searched-all _ (s .searched) past, le-ltb _ _ past)
+      pub rows-bad : {test : Bool} {column : ℕ} → test ≡ ltb kinds (badColumn bytes at kinds one other) → test ≡ false
+          → column ≡ badColumn bytes at kinds one other → judged CELL (at - rowsAt count + column) ≡ cellsJudged bytes count kinds
+      unfolding badColumn cellsJudged
+      rows-bad {column = column} test-is some-bad is = rw (first-is good (count * (kinds + 1)) it within, lt-ltb _ _ within) (ap (judged CELL) place-is)
+        where
+          most : column ≤ kinds
+          most = rw is (ltb-false kinds _ (sym test-is ∙ some-bad))
+
+          within : n * (kinds + 1) + column < count * (kinds + 1)
+          within = digits-lt {q = n} {m = count} {r = column} {c = kinds + 1} below (omega (arith, most))
+
+          first : Found (columnGood bytes at kinds one other) (kinds + 1) column
+          first = rw is (found (columnGood bytes at kinds one other) (kinds + 1))
+
+          it : Found good (count * (kinds + 1)) (n * (kinds + 1) + column)
+          it =
+              record {
+                before = up-to column (omega (arith, most)) (first .before);
+                here = λ small. column-is column (omega (arith, most)) ∙ first .here (omega (arith, most));
+              }
+
+          place-is : at - rowsAt count + column ≡ n * (kinds + 1) + column
+          place-is = let at-is = s .at-is in omega arith
+
+    pub rows-all : {at n : ℕ} → RowsSearched at n → count ≤ n → judged DONE 0 ≡ cellsJudged bytes count kinds
+    unfolding cellsJudged
+    rows-all {at} {n} s past =
+        let least : count * (kinds + 1) ≤ n * (kinds + 1) = mul-le-mul-right (kinds + 1) past in
+        let none : firstBad good (count * (kinds + 1)) 0 ≡ count * (kinds + 1) =
+        first-all good (count * (kinds + 1)) (λ place below. s .passed place (omega arith)) in
+        rw (none, le-ltb (count * (kinds + 1)) (count * (kinds + 1)) (le-refl _))

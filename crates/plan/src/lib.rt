@@ -3,15 +3,16 @@ ghost use mathlib.Core.Path.{_≡_};
 ghost use Prim.Native.Nat.{_+_, _*_, _≤_, _<_};
 ghost use lib.Dec.{ltb};
 ghost use lib.ListN.{length};
-ghost use Rattle.plan.specs.Form.{oneCell, otherCell, badColumn, planSize, cellsJudged};
-ghost use Rattle.plan.specs.Form.{sizeGood, planContentsGood, planGood, planJudged};
+ghost use Rattle.forms.specs.Forms.{contentsAre};
+ghost use Rattle.plan.specs.Form.{planSections, planSize, sizeGood, planGood, cellsJudged, planJudged};
 ghost use Rattle.plan.specs.Form.{planNodesAt, planCount, planKinds, planStart, cellAt, planOf, Runnable, RowHas};
+ghost use Rattle.plan.specs.Rows.{oneCell, otherCell, badColumn};
 use book::Judged;
 use book::Node;
-use book::entry_is;
 use book::first_bad;
 use book::node_at;
 use book::settings_good;
+use forms::contents_are;
 use words::u16_at;
 use words::wide;
 
@@ -178,12 +179,10 @@ fn size_good(size: usize, count: usize, kinds: usize) -> bool
 // Whether a plan's contents are those fixed by its nodes and kinds.
 fn plan_contents_good(plan: &[u8], count: usize, kinds: usize) -> bool
     requires { ⌜ (planSize count kinds ≤ length (now plan)) × (kinds < 65536) ⌝ }
-    ensures { λ r. ⌜ r ≡ planContentsGood (now (plan .entry)) count kinds ⌝ }
+    ensures { λ r. ⌜ r ≡ contentsAre (now (plan .entry)) (planSections count kinds) ⌝ }
 {
-    (u16_at(plan, 0) == 3)
-        & entry_is(plan, 2, 1, SETTINGS_AT, 4)
-        & entry_is(plan, 8, 2, NODES_AT, 6 * count)
-        & entry_is(plan, 14, 3, NODES_AT + 6 * count, count * (kinds + 1))
+    let sizes = [4, 6 * count, count * (kinds + 1)];
+    contents_are(plan, &sizes)
 }
 
 // Whether a plan's length, contents, settings and nodes are good.

@@ -4,11 +4,15 @@ use mathlib.Core.Path.{_≡_}
 use mathlib.Core.Logic.{_↔_, _≢_}
 use mathlib.Core.List.{List, [], _∷_}
 use lib.ListN.{length, take}
-use Rattle.words.specs.Words.{zeros}
-use Rattle.book.specs.Book.{Book}
+use Rattle.words.specs.Words.{zeros, Below}
+use Rattle.book.specs.Book.{Book, WellFormed}
+use Rattle.book.specs.Encode.{bookBytes}
 use Rattle.book.specs.declared.Node.{Node}
-use Rattle.book.specs.Form.{DONE, formOf, bookOf}
+use Rattle.book.specs.Form.{DONE, judged, formOf, bookOf}
 use Rattle.book.proofs.Laws.{form-listed}
+use Rattle.book.proofs.Decoded.{formed, well-formed}
+use Rattle.book.proofs.Encoded as encoded
+use Rattle.book.proofs.Encoded.{good-form-bytes}
 use Rattle.grammar.specs.Rules.{Nullable, First, Snf, Reach}
 use Rattle.grammar.specs.Passing.{Fruitful, Passes}
 use Rattle.grammar.specs.Derivations.{Derives, Lawful, Extends}
@@ -39,6 +43,16 @@ use Rattle.promises.proofs.Readers.{not-constant, not-nodding, not-nodd
 -- Demand 1: the number of a form test is one of 0 to 4
 pub form-answers : (bytes : List ℕ) → formOf bytes .number ≤ 4
 form-answers bytes = form-listed bytes
+
+-- well-formed, in both directions: bytes of good form are a well-formed book's own, and every well-formed book has such bytes
+pub formed-is-well-formed : (bytes : List ℕ) → formOf bytes .number ≡ DONE → WellFormed (bookOf bytes)
+formed-is-well-formed bytes form = well-formed (formed bytes form)
+
+pub formed-has-its-bytes : (bytes : List ℕ) → Below 256 bytes → formOf bytes .number ≡ DONE → bookBytes (bookOf bytes) ≡ bytes
+formed-has-its-bytes bytes small form = good-form-bytes bytes small form
+
+pub well-formed-has-bytes : (b : Book) → WellFormed b → (formOf (bookBytes b) ≡ judged DONE 0) × (bookOf (bookBytes b) ≡ b)
+well-formed-has-bytes b formed = encoded.well-formed-has-bytes b formed
 
 -- Demand 1: every compiling call has an answer, and one only
 pub compiling-answers : (bytes : List ℕ) (room : ℕ) → (a : Compiled) × (plan : List ℕ) × Compiles bytes room a plan

@@ -1,12 +1,11 @@
 -- Readers that demand 3 shuts out, by the rinse book of the worked table: one with a constant answer, one that judges a run by its first
 -- event, and one that judges rightly and writes the records of the first event only.
-use Prim.Native.Nat.{ℕ, _≤_}
+use Prim.Native.Nat.{ℕ, zero, suc, _≤_}
 use native.Mathlib.Omega.{arith}
 use mathlib.Core.Path.{_≡_, refl, sym, ap, _∙_}
 use mathlib.Core.Logic.{_≢_}
-use mathlib.Core.List.{List, [], _∷_, _++_, flatMap}
-use lib.ListN.{length, getD, take, length-replicate}
-use lib.Seq.{take-at}
+use mathlib.Core.List.{List, [], _∷_, _++_}
+use lib.ListN.{length, getD, take, drop, length-replicate}
 use Rattle.words.specs.Words.{zeros}
 use Rattle.book.specs.Form.{DONE, bookOf}
 use Rattle.compiler.specs.declared.Compiled.{Compiled}
@@ -15,8 +14,8 @@ use Rattle.running.specs.Running.{DEEP, UNEXPECTED}
 use Rattle.reader.specs.declared.Reading.{Reading}
 use Rattle.reader.specs.Numbers.{NO-ROOM, answered}
 use Rattle.reader.specs.Reads.{Outcome, outcome, Reads, readOf}
-use Rattle.writer.specs.Bytes.{wordBytes}
-use Rattle.worked.specs.Worked.{Each, and, bookBytes, table}
+use Rattle.worked.specs.Worked
+use Rattle.worked.specs.Worked.{Each, no-more, and, rinse, table}
 use Rattle.worked.proofs.Checked.{worked}
 use Rattle.promises.specs.Promises.{Enough, wider}
 use Rattle.promises.proofs.More.{slots-more, room-more}
@@ -24,8 +23,10 @@ use Rattle.promises.proofs.More.{slots-more, room-more}
 first-of : {A : Type 0} {Of : A → Type 0} {x : A} {xs : List A} → Each Of (x ∷ xs) → Of x
 first-of (and here later) = here
 
-rest-of : {A : Type 0} {Of : A → Type 0} {x : A} {xs : List A} → Each Of (x ∷ xs) → Each Of xs
-rest-of (and here later) = later
+rest-of : {A : Type 0} {Of : A → Type 0} {xs : List A} (n : ℕ) → Each Of xs → Each Of (drop n xs)
+rest-of zero all = all
+rest-of (suc n) no-more = no-more
+rest-of (suc n) (and here later) = rest-of n later
 
 -- the plan of the rinse book, by which two runs are accepted, with other trees, and another that begins as they do is refused
 record Parting : Type 0 where
@@ -38,17 +39,15 @@ record Parting : Type 0 where
   count-is : bookOf bytes .count ≡ 9
 
 parting : Parting
-unfolding table bookOf bookBytes wordBytes flatMap
+unfolding table bookOf
 parting =
-    let rinse = first-of (rest-of worked) in
-    let whole : take 114 (rinse .plan ++ zeros 0) ≡ rinse .plan = take-at (rinse .plan) (zeros 0) 114 (rinse .sized) in
     record {
-      bytes = _;
-      plan = rinse .plan ++ zeros 0;
-      compiled = rinse .compiled 114 (omega arith);
-      rinses = rw whole (first-of (rinse .read));
-      tips = rw whole (first-of (rest-of (rest-of (rest-of (rinse .read)))));
-      fills-again = rw whole (first-of (rest-of (rest-of (rest-of (rest-of (rinse .read))))));
+      bytes = rinse;
+      plan = Worked.plan;
+      compiled = first-of worked;
+      rinses = first-of (rest-of 2 worked);
+      tips = first-of (rest-of 6 worked);
+      fills-again = first-of (rest-of 7 worked);
       count-is = refl;
     }
 

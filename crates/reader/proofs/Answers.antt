@@ -14,7 +14,7 @@ use Rattle.running.specs.Running.{Plan, withSlots, Answer, accepted, stopped, e
 use Rattle.book.specs.Form.{judged}
 use Rattle.book.specs.Decode.{firstBad}
 use Rattle.book.specs.declared.Judged.{Judged}
-use Rattle.plan.specs.Form.{PLAN-FORM, CELL, planOf, planCount, planKinds, planJudged, planGood, rowGood, cellsJudged}
+use Rattle.plan.specs.Form.{PLAN-FORM, CELL, planOf, planCount, planKinds, planJudged, planGood, cellGood, cellsJudged}
 use Rattle.reader.specs.declared.Reading.{Reading}
 use Rattle.reader.specs.Numbers.{LONG, NO-ROOM, answered}
 use Rattle.reader.specs.Reads.{Outcome, Reads, bare, acceptedOf, outcomeOf, runOf, readOf}
@@ -57,7 +57,8 @@ unfolding planJudged cellsJudged
 judged-bad plan =
     let count = planCount plan in
     let kinds = planKinds plan in
-    by-form (planGood plan count kinds) (ltb (firstBad (rowGood plan count kinds) count 0) count) _
+    let all = count * (kinds + 1) in
+    by-form (planGood plan count kinds) (ltb (firstBad (cellGood plan count kinds) all 0) all) _
   where
     Bad : Judged → Type 0
     Bad j = (j .number ≡ DONE → ⊥) → (8 ≤ j .number) × (j .number ≤ 15)

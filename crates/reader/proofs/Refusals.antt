@@ -1,5 +1,4 @@
 -- The numbers of the refusals that a run can meet, of any plan: 11 to 15.
-use mathlib.Core.Path.{_≡_}
 use mathlib.Core.Bool.{Bool, true, false, cond}
 use mathlib.Core.List.{List, [], _∷_}
 use Prim.Native.Nat.{ℕ, zero, suc, _≤_}

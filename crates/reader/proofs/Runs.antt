@@ -14,7 +14,7 @@ use Rattle.book.specs.Form.{DONE}
 use Rattle.running.specs.Running.{Plan, withSlots, emptied, Step, event, expected, Answer, accepted, stopped, logged, onward, finish, reads}
 use Rattle.running.specs.Running.{UNKNOWN, END}
 use Rattle.reader.specs.Numbers.{answered, refusal}
-use Rattle.reader.specs.Machine.{After, SlotsHold, Ended, stands, ended, stack, takeOf, eventOf, placed, onOf}
+use Rattle.reader.specs.Machine.{After, SlotsHold, Ended, stands, ended, stack, eventOf, placed, onOf}
 use Rattle.reader.specs.Machine.{takenOf, finishOf, closeOf, readsOf}
 use Rattle.reader.proofs.Slots.{held-less}
 use Rattle.reader.proofs.Refusals.{Numbered, numbered-taken, numbered-refused, event-numbered}

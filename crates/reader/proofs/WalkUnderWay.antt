@@ -1,5 +1,5 @@
 -- A walk under way: what is left of it comes to the whole walk's end, and how each cell goes on or ends it.
-use mathlib.Core.Path.{_≡_, refl, sym, ap, _∙_}
+use mathlib.Core.Path.{_≡_, refl, ap, _∙_}
 use mathlib.Core.List.{List}
 use Prim.Native.Nat.{ℕ, zero, suc, _+_, _*_, _≤_, _<_}
 use native.Mathlib.Numerals.{add-one}
@@ -8,7 +8,7 @@ use borrow.Author.Tests.{lt-ltb, le-ltb}
 use lib.ListN.{length, set, length-set}
 use Rattle.book.specs.Form.{DONE}
 use Rattle.running.specs.Running.{Plan, moveOf, refuse, emptied, DEEP, UNEXPECTED, RUNAWAY}
-use Rattle.reader.specs.Machine.{After, Go, stands, visitOf, walkOf}
+use Rattle.reader.specs.Machine.{After, stands, visitOf, walkOf}
 use Rattle.reader.proofs.Simulation.{Bounded}
 
 -- a cell that is none of 1 to 5, as the last arm of a match knows it

@@ -1,8 +1,8 @@
 // The reader: runs a plan over a run of events, numbers 8 to 16.
 ghost use mathlib.Core.Path.{_≡_};
-ghost use Prim.Native.Nat.{_+_, _*_, _-_, _≤_, _<_};
-ghost use lib.ListN.{length, set};
 ghost use mathlib.Core.Bool.{cond};
+ghost use Prim.Native.Nat.{_≤_, _<_};
+ghost use lib.ListN.{length, set};
 ghost use Rattle.running.specs.Running.{rowFirst, tells};
 ghost use Rattle.plan.specs.Form.{planFrom, planJudged, Runnable};
 ghost use Rattle.reader.specs.Machine.{after, afterEvent, ended, lastOf, expectedOf};

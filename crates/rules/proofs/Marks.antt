@@ -47,14 +47,14 @@ ruled k t (Ref l) = t l
 -- ---- sound
 
 -- marks of a node are facts
-record Sound (node : ℕ → Node) (k : ℕ) (at : Node) (marks : Four) : Type 0 where
+record SoundMarks (node : ℕ → Node) (k : ℕ) (at : Node) (marks : Four) : Type 0 where
   productive : marks .productive ≡ true → Productive node at
   nullable : marks .nullable ≡ true → Nullable node at
   first : marks .first ≡ true → First node at k
   snf : marks .snf ≡ true → Snf node at k
 
-module _ {node : ℕ → Node} {k : ℕ} {t : ℕ → Four} (sound : (n : ℕ) → Sound node k (node n) (t n)) where
-  ruled-sound : (at : Node) → Sound node k at (ruled k t at)
+module _ {node : ℕ → Node} {k : ℕ} {t : ℕ → Four} (sound : (n : ℕ) → SoundMarks node k (node n) (t n)) where
+  ruled-sound : (at : Node) → SoundMarks node k at (ruled k t at)
   unfolding ruled
   ruled-sound Fail = record { productive = never; nullable = never; first = never; snf = never }
   ruled-sound Empty = record { productive = λ e. p-empty; nullable = λ e. n-empty; first = never; snf = never }
@@ -200,7 +200,7 @@ module _ (node : ℕ → Node) (k n j : ℕ) (small : j < 4) where
   given-at t e = rw (own, place) e
 
 module _ (node : ℕ → Node) (k : ℕ) where
-  sound-number : {at : Node} {marks : Four} → Sound node k at marks → (j : ℕ) → markOf marks j ≡ true → Fact node at j k
+  sound-number : {at : Node} {marks : Four} → SoundMarks node k at marks → (j : ℕ) → markOf marks j ≡ true → Fact node at j k
   sound-number s zero e = s .productive e
   sound-number s (suc zero) e = s .nullable e
   sound-number s (suc (suc zero)) e = s .first e
@@ -220,7 +220,7 @@ module _ (node : ℕ → Node) (k : ℕ) where
   has-number t keeps at (suc (suc zero)) d = has-first node k t keeps d
   has-number t keeps at (suc (suc (suc j))) d = has-snf node k t keeps d
 
-  sound-at : (t : ℕ → Bool) → ((i : ℕ) → t i ≡ true → FactAt node i k) → (n : ℕ) → Sound node k (node n) (marksAt t n)
+  sound-at : (t : ℕ → Bool) → ((i : ℕ) → t i ≡ true → FactAt node i k) → (n : ℕ) → SoundMarks node k (node n) (marksAt t n)
   sound-at t sound n =
       record {
         productive = λ e. fact-at node k n 0 (omega arith) .0 (sound _ e);

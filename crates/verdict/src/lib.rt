@@ -34,7 +34,7 @@ pub struct Verdict {
 }
 
 // The verdict with a number, a place and a kind.
-fn answered(number: u32, place: usize, kind: usize) -> Verdict
+fn verdict_of(number: u32, place: usize, kind: usize) -> Verdict
     requires { ⌜ (place < 2 ^ 32) × (kind < 2 ^ 32) ⌝ }
     ensures { λ r. ⌜ r ≡ judgement number place kind ⌝ }
 {
@@ -137,15 +137,15 @@ fn judge_known(book: &[u8], count: usize, table: &[u64]) -> Verdict
     let start = u16_at(book, SETTINGS_AT + 2);
     let facts = rules::facts_at(table, start);
     if !kinds::has(facts.productive, 0) {
-        return answered(BARREN, start, 0);
+        return verdict_of(BARREN, start, 0);
     }
     let mut marks = [0u64; rules::MARKS];
     let n = lowest_conflict(book, count, start, table, &mut marks);
     if n < count {
         let kind = conflict_at(book, count, n, table);
-        return answered(CONFLICT, n, kind);
+        return verdict_of(CONFLICT, n, kind);
     }
-    answered(DONE, 0, 0)
+    verdict_of(DONE, 0, 0)
 }
 
 // Judges a book, for any bytes: the first of 1 to 6, or that it passes, with its facts in the table. Where the form is good the table is
@@ -156,7 +156,7 @@ pub fn judge(book: &[u8], table: &mut [u64]) -> Verdict
 {
     let form = book::form(book);
     if form.number != DONE {
-        return answered(form.number, form.place as usize, 0);
+        return verdict_of(form.number, form.place as usize, 0);
     }
     let count = book::count_of(book.len());
     rules::least_facts(book, NODES_AT, count, table);

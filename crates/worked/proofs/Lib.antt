@@ -1,3 +1,1 @@
-pub mod Lists
-pub mod Readings
 pub mod Checked

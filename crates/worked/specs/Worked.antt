@@ -1,26 +1,16 @@
--- The worked table: the cases that document 01 marks P, each with the answers that it gives, and what it means that one holds.
-use Prim.Native.Nat.{ℕ, _*_, _-_, _≤_}
+-- The worked table, in document 01's own digits: cases of compiling and reading, and what it means that one holds.
+use Prim.Native.Nat.{ℕ, _*_}
 use mathlib.Core.Path.{_≡_}
-use mathlib.Core.List.{List, [], _∷_, _++_, flatMap, flatten}
-use lib.ListN.{length, take, drop}
-use Rattle.words.specs.Words.{zeros}
-use Rattle.book.specs.Form.{DONE, bookOf}
+use mathlib.Core.List.{List, [], _∷_, _++_, flatMap}
+use lib.ListN.{length, take, set, replicate}
+use Rattle.words.specs.Words.{wordBytes, zeros}
 use Rattle.book.specs.declared.Node.{Node}
 use Rattle.book.specs.declared.Node.the-variants.{Fail, Empty, Token, Either, Then, Tagged, Ref}
-use Rattle.writer.specs.Bytes.{wordBytes}
-use Rattle.plan.specs.Form.{rowsAt}
-use Rattle.running.specs.Running.{emptied, DEEP, UNKNOWN, UNEXPECTED, END}
-use Rattle.verdict.specs.Judges.{CONFLICT}
+use Rattle.compiler.specs.declared.Compiled.{Compiled}
 use Rattle.compiler.specs.Compiles.{answer, Compiles}
 use Rattle.reader.specs.declared.Reading.{Reading}
-use Rattle.reader.specs.Numbers.{NO-ROOM, answered}
+use Rattle.reader.specs.Numbers.{answered}
 use Rattle.reader.specs.Reads.{outcome, readOf}
-
--- a book as document 01 writes it: kinds, start and nodes
-pub record Written : Type 0 where
-  pub kinds : ℕ
-  pub start : ℕ
-  pub nodes : List Node
 
 -- a node's type, left and right
 abbrev pub nodeWords : Node → List ℕ
@@ -32,97 +22,78 @@ nodeWords (Then l r) = 4 ∷ l ∷ r ∷ []
 nodeWords (Tagged l t) = 5 ∷ l ∷ t ∷ []
 nodeWords (Ref l) = 6 ∷ l ∷ 0 ∷ []
 
--- the bytes of a book: the count 2, the entries of settings and nodes, then their bodies
-unfoldable pub bookBytes : Written → List ℕ
-bookBytes book =
-    wordBytes
-    (2 ∷ 1 ∷ 14 ∷ 4 ∷ 2 ∷ 18 ∷ (6 * length (book .nodes)) ∷ book .kinds ∷ book .start ∷ flatMap nodeWords (book .nodes))
+-- the bytes of the book with these kinds, start and nodes
+unfoldable pub book : ℕ → ℕ → List Node → List ℕ
+book kinds start nodes =
+    wordBytes (2 ∷ 1 ∷ 14 ∷ 4 ∷ 2 ∷ 18 ∷ (6 * length nodes) ∷ kinds ∷ start ∷ flatMap nodeWords nodes)
 
--- a reading: a run, so many slots and so much tree room, the answer, and the records that the tree buffer then begins with
-pub record Run : Type 0 where
-  pub run : List ℕ
-  pub slots : ℕ
-  pub room : ℕ
-  pub answer : Reading
-  pub tree : List ℕ
-
--- a case: a book's first bytes; a book that has a conflict, with its place and kind, whatever the plan
--- room; or a book that passes, with its plan's size, the plan's rows, and readings
+-- a case: a book compiled with so much plan room, the answer, the plan buffer after it; or a plan, a run read by it
+-- with so many slots and so much tree room, the answer, the tree buffer after it
 pub data Case : Type 0 where
-  begins : Written → List ℕ → Case
-  conflicts : Written → ℕ → ℕ → Case
-  passes : Written → ℕ → List (List ℕ) → List Run → Case
+  compiled : List ℕ → ℕ → Compiled → List ℕ → Case
+  read : List ℕ → List ℕ → ℕ → ℕ → Reading → List ℕ → Case
+
+-- what it means that a case holds
+abbrev pub Holds : Case → Type 0
+Holds (compiled bytes room a buffer) = Compiles bytes room a buffer
+Holds (read bytes run slots room a buffer) = readOf bytes run slots room ≡ outcome a buffer
 
 -- something holds of each entry of a list
 pub data Each {A : Type 0} (Of : A → Type 0) : List A → Type 0 where
   no-more : Each Of []
   and : {x : A} {xs : List A} → Of x → Each Of xs → Each Of (x ∷ xs)
 
--- a plan is read as a reading says; past the records the tree buffer is zero
-abbrev pub ReadsAs : List ℕ → Run → Type 0
-ReadsAs plan r = readOf plan (r .run) (r .slots) (r .room) ≡ outcome (r .answer) (r .tree ++ zeros (r .room - length (r .tree)))
+-- the rinse book: token 0; token 1; token 2; empty; ref 6; then 1 4; either 5 3; then 6 2; then 0 7
+abbrev pub rinse : List ℕ
+rinse = 2 ∷ 0 ∷ 1 ∷ 0 ∷ 14 ∷ 0 ∷ 4 ∷ 0 ∷ 2 ∷ 0 ∷ 18 ∷ 0 ∷ 54 ∷ 0 ∷ 3 ∷ 0 ∷ 8 ∷ 0 ∷ 2 ∷ 0 ∷ 0 ∷ 0 ∷ 0 ∷ 0
+    ∷ 2 ∷ 0 ∷ 1 ∷ 0 ∷ 0 ∷ 0 ∷ 2 ∷ 0 ∷ 2 ∷ 0 ∷ 0 ∷ 0 ∷ 1 ∷ 0 ∷ 0 ∷ 0 ∷ 0 ∷ 0 ∷ 6 ∷ 0 ∷ 6 ∷ 0 ∷ 0 ∷ 0
+    ∷ 4 ∷ 0 ∷ 1 ∷ 0 ∷ 4 ∷ 0 ∷ 3 ∷ 0 ∷ 5 ∷ 0 ∷ 3 ∷ 0 ∷ 4 ∷ 0 ∷ 6 ∷ 0 ∷ 2 ∷ 0 ∷ 4 ∷ 0 ∷ 0 ∷ 0 ∷ 7 ∷ 0 ∷ []
 
--- compiling a book with room enough is done, with a plan of a size that has these rows, and reads as the readings say
-pub record Passes (bytes : List ℕ) (size : ℕ) (rows : List (List ℕ)) (runs : List Run) : Type 0 where
-  pub plan : List ℕ
-  pub compiled : (room : ℕ) → size ≤ room → Compiles bytes room (answer DONE 0 0 size) (plan ++ zeros (room - size))
-  pub sized : length plan ≡ size
-  pub rows-are : drop (rowsAt (bookOf bytes .count)) plan ≡ flatten rows
-  pub read : Each (ReadsAs plan) runs
+-- its plan: contents and settings; nodes; rows
+abbrev pub plan : List ℕ
+plan = 3 ∷ 0 ∷ 1 ∷ 0 ∷ 20 ∷ 0 ∷ 4 ∷ 0 ∷ 2 ∷ 0 ∷ 24 ∷ 0 ∷ 54 ∷ 0 ∷ 3 ∷ 0 ∷ 78 ∷ 0 ∷ 36 ∷ 0 ∷ 3 ∷ 0 ∷ 8 ∷ 0
+    ∷ 2 ∷ 0 ∷ 0 ∷ 0 ∷ 0 ∷ 0 ∷ 2 ∷ 0 ∷ 1 ∷ 0 ∷ 0 ∷ 0 ∷ 2 ∷ 0 ∷ 2 ∷ 0 ∷ 0 ∷ 0 ∷ 1 ∷ 0 ∷ 0 ∷ 0 ∷ 0 ∷ 0
+    ∷ 6 ∷ 0 ∷ 6 ∷ 0 ∷ 0 ∷ 0 ∷ 4 ∷ 0 ∷ 1 ∷ 0 ∷ 4 ∷ 0 ∷ 3 ∷ 0 ∷ 5 ∷ 0 ∷ 3 ∷ 0 ∷ 4 ∷ 0 ∷ 6 ∷ 0 ∷ 2 ∷ 0
+    ∷ 4 ∷ 0 ∷ 0 ∷ 0 ∷ 7 ∷ 0 ∷ 1 ∷ 0 ∷ 0 ∷ 0 ∷ 0 ∷ 1 ∷ 0 ∷ 0 ∷ 0 ∷ 0 ∷ 1 ∷ 0 ∷ 0 ∷ 0 ∷ 0 ∷ 1
+    ∷ 0 ∷ 2 ∷ 0 ∷ 1 ∷ 0 ∷ 3 ∷ 0 ∷ 0 ∷ 0 ∷ 2 ∷ 0 ∷ 1 ∷ 0 ∷ 3 ∷ 4 ∷ 0 ∷ 3 ∷ 0 ∷ 0 ∷ 0 ∷ []
 
--- what it means that a case holds
-abbrev pub Holds : Case → Type 0
-Holds (begins book bytes) = take 18 (bookBytes book) ≡ bytes
-Holds (conflicts book place kind) =
-    (room : ℕ) → Compiles (bookBytes book) room (answer CONFLICT place kind 0) (zeros room)
-Holds (passes book size rows runs) = Passes (bookBytes book) size rows runs
-
--- ---- the table
-
--- a reading in a line: run, slots, room, answer, tree
-abbrev reads : List ℕ → ℕ → ℕ → Reading → List ℕ → Run
-reads run slots room answer tree = record { run = run; slots = slots; room = room; answer = answer; tree = tree }
-
--- a book in a line: kinds, start, nodes
-abbrev book : ℕ → ℕ → List Node → Written
-book kinds start nodes = record { kinds = kinds; start = start; nodes = nodes }
-
--- the rinse book
-abbrev rinse : Written
-rinse =
-    book 3 8
-    (Token 0 ∷ Token 1 ∷ Token 2 ∷ Empty ∷ Ref 6 ∷ Then 1 4 ∷ Either 5 3 ∷ Then 6 2 ∷ Then 0 7 ∷ [])
-
--- the cases of document 01, in its order
+-- the cases, with the plans of a lone empty, of a harmless left recursion, and of two nodes over 64 kinds
 unfoldable pub table : List Case
 table =
-    begins rinse (2 ∷ 0 ∷ 1 ∷ 0 ∷ 14 ∷ 0 ∷ 4 ∷ 0 ∷ 2 ∷ 0 ∷ 18 ∷ 0 ∷ 54 ∷ 0 ∷ 3 ∷ 0 ∷ 8 ∷ 0 ∷ [])
-    ∷ passes rinse 114
-    ((1 ∷ 0 ∷ 0 ∷ 0 ∷ [])
-    ∷ (0 ∷ 1 ∷ 0 ∷ 0 ∷ [])
-    ∷ (0 ∷ 0 ∷ 1 ∷ 0 ∷ [])
-    ∷ (0 ∷ 0 ∷ 0 ∷ 1 ∷ [])
-    ∷ (0 ∷ 2 ∷ 0 ∷ 1 ∷ [])
-    ∷ (0 ∷ 3 ∷ 0 ∷ 0 ∷ [])
-    ∷ (0 ∷ 2 ∷ 0 ∷ 1 ∷ [])
-    ∷ (0 ∷ 3 ∷ 4 ∷ 0 ∷ [])
-    ∷ (3 ∷ 0 ∷ 0 ∷ 0 ∷ [])
-    ∷ [])
-    (reads (0 ∷ 1 ∷ 2 ∷ []) 2 8 (answered DONE 3 8 0) (8 ∷ 0 ∷ 7 ∷ 6 ∷ 5 ∷ 1 ∷ emptied 4 ∷ 2 ∷ [])
-    ∷ reads (0 ∷ 1 ∷ 2 ∷ []) 1 8 (answered DEEP 1 0 0) []
-    ∷ reads (0 ∷ 1 ∷ 2 ∷ []) 2 7 (answered NO-ROOM 0 8 0) []
-    ∷ reads (0 ∷ 2 ∷ []) 2 8 (answered DONE 2 5 0) (8 ∷ 0 ∷ 7 ∷ emptied 6 ∷ 2 ∷ [])
-    ∷ reads (0 ∷ 0 ∷ []) 2 8 (answered UNEXPECTED 1 0 6) []
-    ∷ reads [] 2 8 (answered END 0 0 1) []
-    ∷ reads (0 ∷ 1 ∷ 1 ∷ []) 2 8 (answered END 3 0 2) []
-    ∷ reads (0 ∷ 2 ∷ 1 ∷ []) 2 8 (answered UNEXPECTED 2 0 0) []
-    ∷ reads (0 ∷ 3 ∷ []) 2 8 (answered UNKNOWN 1 0 6) []
-    ∷ [])
-    ∷ conflicts (book 1 2 (Token 0 ∷ Token 0 ∷ Either 0 1 ∷ [])) 2 0
-    ∷ conflicts (book 1 2 (Empty ∷ Empty ∷ Either 0 1 ∷ [])) 2 255
-    ∷ conflicts (book 1 3 (Token 0 ∷ Empty ∷ Either 0 1 ∷ Then 2 0 ∷ [])) 3 0
-    ∷ conflicts (book 2 4 (Ref 4 ∷ Token 0 ∷ Then 0 1 ∷ Token 1 ∷ Either 2 3 ∷ [])) 4 1
-    ∷ passes (book 1 4 (Ref 4 ∷ Fail ∷ Then 0 1 ∷ Token 0 ∷ Either 2 3 ∷ [])) 64
-    ((2 ∷ 0 ∷ []) ∷ (0 ∷ 0 ∷ []) ∷ (0 ∷ 0 ∷ []) ∷ (1 ∷ 0 ∷ []) ∷ (5 ∷ 0 ∷ []) ∷ [])
-    (reads (0 ∷ []) 1 2 (answered DONE 1 2 0) (4 ∷ 3 ∷ []) ∷ [])
-    ∷ []
+    let lone : List ℕ = 3 ∷ 0 ∷ 1 ∷ 0 ∷ 20 ∷ 0 ∷ 4 ∷ 0 ∷ 2 ∷ 0 ∷ 24 ∷ 0 ∷ 6 ∷ 0 ∷ 3 ∷ 0 ∷ 30 ∷ 0 ∷ 2 ∷ 0
+    ∷ 1 ∷ 0 ∷ 0 ∷ 0 ∷ 1 ∷ 0 ∷ 0 ∷ 0 ∷ 0 ∷ 0 ∷ 0 ∷ 1 ∷ [] in
+    let loop : List ℕ = 3 ∷ 0 ∷ 1 ∷ 0 ∷ 20 ∷ 0 ∷ 4 ∷ 0 ∷ 2 ∷ 0 ∷ 24 ∷ 0 ∷ 30 ∷ 0 ∷ 3 ∷ 0 ∷ 54 ∷ 0 ∷ 10 ∷ 0
+    ∷ 1 ∷ 0 ∷ 4 ∷ 0 ∷ 6 ∷ 0 ∷ 4 ∷ 0 ∷ 0 ∷ 0 ∷ 0 ∷ 0 ∷ 0 ∷ 0 ∷ 0 ∷ 0 ∷ 4 ∷ 0 ∷ 0 ∷ 0 ∷ 1 ∷ 0
+    ∷ 2 ∷ 0 ∷ 0 ∷ 0 ∷ 0 ∷ 0 ∷ 3 ∷ 0 ∷ 2 ∷ 0 ∷ 3 ∷ 0 ∷ 2 ∷ 0 ∷ 0 ∷ 0 ∷ 0 ∷ 0 ∷ 1 ∷ 0 ∷ 5 ∷ 0 ∷ [] in
+    let wide : List ℕ = 3 ∷ 0 ∷ 1 ∷ 0 ∷ 20 ∷ 0 ∷ 4 ∷ 0 ∷ 2 ∷ 0 ∷ 24 ∷ 0 ∷ 12 ∷ 0 ∷ 3 ∷ 0 ∷ 36 ∷ 0 ∷ 130 ∷ 0 ∷ 64 ∷ 0
+    ∷ 1 ∷ 0 ∷ 2 ∷ 0 ∷ 63 ∷ 0 ∷ 0 ∷ 0 ∷ 5 ∷ 0 ∷ 0 ∷ 0 ∷ 255 ∷ 255 ∷ zeros 63 ++ 1 ∷ 0 ∷ zeros 63 ++ 2 ∷ 0 ∷ [] in
+    compiled rinse 114 (answer 0 0 0 114) plan ∷ compiled rinse 113 (answer 7 0 0 114) (zeros 113)
+    ∷ read plan (0 ∷ 1 ∷ 2 ∷ []) 2 8 (answered 0 3 8 0) (8 ∷ 0 ∷ 7 ∷ 6 ∷ 5 ∷ 1 ∷ 32772 ∷ 2 ∷ [])
+    ∷ read plan (0 ∷ 1 ∷ 2 ∷ []) 1 8 (answered 11 1 0 0) (zeros 8) ∷ read plan [] 0 0 (answered 11 0 0 0) []
+    ∷ read plan (0 ∷ 1 ∷ 2 ∷ []) 2 7 (answered 16 0 8 0) (zeros 7)
+    ∷ read plan (0 ∷ 2 ∷ []) 2 8 (answered 0 2 5 0) (8 ∷ 0 ∷ 7 ∷ 32774 ∷ 2 ∷ 0 ∷ 0 ∷ 0 ∷ [])
+    ∷ read plan (0 ∷ 0 ∷ []) 2 8 (answered 13 1 0 6) (zeros 8)
+    ∷ read plan [] 2 0 (answered 14 0 0 1) [] ∷ read plan (0 ∷ 1 ∷ 1 ∷ []) 2 0 (answered 14 3 0 2) []
+    ∷ read plan (0 ∷ 2 ∷ 1 ∷ []) 2 0 (answered 13 2 0 0) [] ∷ read plan (0 ∷ 3 ∷ []) 2 0 (answered 12 1 0 6) []
+    ∷ compiled (book 1 2 (Token 0 ∷ Token 0 ∷ Either 0 1 ∷ [])) 2 (answer 6 2 0 0) (0 ∷ 0 ∷ [])
+    ∷ compiled (book 1 2 (Empty ∷ Empty ∷ Either 0 1 ∷ [])) 2 (answer 6 2 255 0) (0 ∷ 0 ∷ [])
+    ∷ compiled (book 1 3 (Token 0 ∷ Empty ∷ Either 0 1 ∷ Then 2 0 ∷ [])) 2 (answer 6 3 0 0) (0 ∷ 0 ∷ [])
+    ∷ compiled (book 2 4 (Ref 4 ∷ Token 0 ∷ Then 0 1 ∷ Token 1 ∷ Either 2 3 ∷ [])) 2 (answer 6 4 1 0) (0 ∷ 0 ∷ [])
+    ∷ compiled (book 1 4 (Ref 4 ∷ Fail ∷ Then 0 1 ∷ Token 0 ∷ Either 2 3 ∷ [])) 64 (answer 0 0 0 64) loop
+    ∷ read loop (0 ∷ []) 1 2 (answered 0 1 2 0) (4 ∷ 3 ∷ []) ∷ compiled (book 1 0 (Fail ∷ [])) 0 (answer 5 0 0 0) []
+    ∷ compiled (book 1 1 (Token 0 ∷ Fail ∷ [])) 2 (answer 5 1 0 0) (0 ∷ 0 ∷ [])
+    ∷ compiled (book 1 0 (Empty ∷ [])) 33 (answer 0 0 0 32) (lone ++ (0 ∷ []))
+    ∷ read lone [] 1 1 (answered 0 0 1 0) (32768 ∷ []) ∷ read lone (0 ∷ []) 1 1 (answered 13 0 0 0) (0 ∷ [])
+    ∷ compiled (book 1 0 (Token 0 ∷ Token 0 ∷ Either 0 1 ∷ [])) 0 (answer 7 0 0 48) []
+    ∷ compiled (book 2 5 (Token 0 ∷ Empty ∷ Either 0 1 ∷ Token 1 ∷ Then 2 3 ∷ Then 4 0 ∷ [])) 0 (answer 7 0 0 78) []
+    ∷ compiled (book 64 1 (Token 63 ∷ Tagged 0 65535 ∷ [])) 166 (answer 0 0 0 166) wide
+    ∷ read wide (63 ∷ []) 1 2 (answered 0 1 2 0) (1 ∷ 0 ∷ [])
+    ∷ read wide (64 ∷ []) 1 0 (answered 12 0 0 9223372036854775808) []
+    ∷ compiled (zeros 18) 0 (answer 1 0 0 0) [] ∷ compiled (zeros 24) 0 (answer 2 0 0 0) []
+    ∷ compiled (zeros 3090) 0 (answer 2 0 0 0) [] ∷ compiled (zeros 3096) 0 (answer 1 0 0 0) []
+    ∷ compiled (book 65 0 (Fail ∷ [])) 0 (answer 3 0 0 0) [] ∷ compiled (book 64 1 (Fail ∷ [])) 0 (answer 3 0 0 0) []
+    ∷ compiled (book 64 511 (Token 63 ∷ Token 64 ∷ replicate 510 Fail)) 0 (answer 4 1 0 0) []
+    ∷ read (take 113 plan) [] 2 0 (answered 8 0 0 0) [] ∷ read (set plan 2 2) [] 2 0 (answered 8 0 0 0) []
+    ∷ read (set plan 111 2) [] 2 0 (answered 9 33 0 0) [] ∷ read (set plan 113 2) [] 2 0 (answered 9 35 0 0) []
+    ∷ read plan (zeros 65535) 2 0 (answered 13 1 0 6) [] ∷ read plan (zeros 65536) 0 0 (answered 10 0 0 0) []
+    ∷ read (take 24 lone ++ (6 ∷ 0 ∷ 0 ∷ 0 ∷ 0 ∷ 0 ∷ 2 ∷ 0 ∷ [])) (0 ∷ []) 1 1 (answered 15 0 0 0) (0 ∷ []) ∷ []

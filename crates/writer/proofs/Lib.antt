@@ -1,4 +1,3 @@
-mod Listed
 pub mod PlanBytes
 pub mod PlanDone
 mod Row

@@ -2,30 +2,42 @@
 use mathlib.Core.Path.{_≡_, refl, ap, ap₂, _∙_}
 use mathlib.Core.Bool.{true, cond}
 use mathlib.Core.List.{List}
-use Prim.Native.Nat.{ℕ, _+_, _*_, _-_, _/_, _%_, _≤_, _<_}
+use Prim.Native.Nat.{ℕ, _+_, _*_, _-_, _/_, _≤_, _<_}
 use native.Mathlib.Nat.{zero-add}
 use native.Mathlib.Omega.{arith}
-use borrow.Author.Tests.{eq-eqb}
-use lib.ListN.{length, getD, drop, length-append, length-drop, List·getD-append}
-use lib.Seq.{getD-drop}
+use lib.ListN.{length, getD, take, length-append, List·getD-append}
+use lib.Seq.{getD-drop, getD-take, length-slice}
+use Rattle.words.specs.Lists.{valuesFrom}
 use Rattle.words.specs.Words.{u16At}
+use Rattle.words.proofs.Bytes.{length-words, u16-words}
+use Rattle.words.proofs.Lists.{getD-second, length-values, getD-values, length-lists, getD-lists}
+use Rattle.forms.specs.Forms.{contentsOf, contentsAre}
+use Rattle.forms.proofs.Contents.{length-contents, small-contents, contents-are-those}
 use Rattle.book.specs.Book.{Book}
 use Rattle.book.specs.Decode.{nodeAt, nodeGood, typeAt, leftAt, rightAt}
 use Rattle.book.specs.Form.{settingsAt, nodesAt, countOf, bookOf}
 use Rattle.book.proofs.Decoded.{Formed}
 use Rattle.running.specs.Cells.{Marks, cellOf}
-use Rattle.plan.specs.Form.{planNodesAt, rowsAt, rowAt, planSize, planCount, planKinds, planStart, cellAt, planContentsGood}
-use Rattle.writer.specs.Bytes.{wordBytes, valuesFrom, planContents, rowOf, rowsOf, planBytes}
+use Rattle.plan.specs.Form.{planSections, planSettingsAt, planNodesAt, rowsAt, rowAt, planSize, planCount, planKinds, planStart, cellAt}
 use Rattle.plan.proofs.Laws.{size-small}
-use Rattle.writer.proofs.Listed.{getD-second, length-values, getD-values, length-lists, getD-lists}
+use Rattle.writer.specs.Bytes.{planContents, bookBody, rowOf, rowsOf, planBytes}
 
--- a number's two bytes
-word-is : (n : ℕ) → n < 65536 → n % 256 + 256 * (n / 256 % 256) ≡ n
-word-is n small = omega arith
+-- contents reach to where the settings begin
+pub contents-long : (count kinds : ℕ) → length (planContents count kinds) ≡ planSettingsAt
+unfolding planContents
+contents-long count kinds = length-words (contentsOf (planSections count kinds)) ∙ length-contents (planSections count kinds)
 
-pub length-contents : (count kinds : ℕ) → length (planContents count kinds) ≡ 20
-unfolding planContents wordBytes
-length-contents count kinds = refl
+-- settings and nodes reach from there to where the rows begin
+module _ (bytes : List ℕ) (count : ℕ) (within : nodesAt + 6 * count ≤ length bytes) where
+  pub body-long : planSettingsAt + length (bookBody bytes count) ≡ rowsAt count
+  unfolding bookBody
+  body-long = omega (arith, length-slice settingsAt (nodesAt + 6 * count) bytes within)
+
+  pub body-byte : (i : ℕ) → planSettingsAt + i < rowsAt count → getD (bookBody bytes count) i 0 ≡ getD bytes (settingsAt + i) 0
+  unfolding bookBody
+  body-byte i below =
+      let end = nodesAt + 6 * count in
+      getD-drop settingsAt (take end bytes) i 0 ∙ getD-take end bytes (settingsAt + i) 0 (omega arith)
 
 module _ (marks : Marks) (book : Book) where
   -- the cells for kinds in a node's row
@@ -63,80 +75,74 @@ module _ (bytes : List ℕ) (marks : Marks) (formed : Formed bytes) where
   abbrev plan : List ℕ
   plan = planBytes bytes marks
 
+  body-within : nodesAt + 6 * count ≤ length bytes
+  body-within = omega (arith, formed .size .is)
+
   pub size-is : length plan ≡ planSize count kinds
   unfolding planBytes bookOf
   size-is =
       length-append (planContents count kinds) _
-      ∙ omega (arith, length-contents count kinds, length-append (drop 14 bytes) (rowsOf marks (bookOf bytes)), length-drop 14 bytes, length-rows marks (bookOf bytes), formed .size .is)
+      ∙ omega (arith, contents-long count kinds, length-append (bookBody bytes count) (rowsOf marks (bookOf bytes)), body-long bytes count body-within, length-rows marks (bookOf bytes))
 
   -- settings and nodes are those of the book
-  pub byte-copied : (i : ℕ) → i < 4 + 6 * count → getD plan (20 + i) 0 ≡ getD bytes (14 + i) 0
+  pub byte-copied : (at from i : ℕ) → at ≡ planSettingsAt + i → from ≡ settingsAt + i → at < rowsAt count → getD plan at 0 ≡ getD bytes from 0
   unfolding planBytes bookOf
-  byte-copied i within =
-      getD-second (planContents count kinds) _ (20 + i) i (omega (arith, length-contents count kinds))
-      ∙ List·getD-append (drop 14 bytes) _ 0 i (omega (arith, length-drop 14 bytes, formed .size .is))
-      ∙ getD-drop 14 bytes i 0
+  byte-copied at from i at-is from-is below =
+      getD-second (planContents count kinds) _ at i (omega (arith, contents-long count kinds))
+      ∙ List·getD-append (bookBody bytes count) _ 0 i (omega (arith, body-long bytes count body-within))
+      ∙ rw from-is (body-byte bytes count body-within i (omega arith))
 
   -- a row stands where it should
   pub row-stands : (n column : ℕ) → n < count → column < kinds + 1
       → getD plan (rowAt count kinds n + column) 0 ≡ getD (rowOf marks (bookOf bytes) n) column 0
   unfolding planBytes bookOf rowsOf
   row-stands n column below within =
-      getD-second (planContents count kinds) _ _ (4 + 6 * count + (n * (kinds + 1) + column)) (omega (arith, length-contents count kinds))
-      ∙ getD-second (drop 14 bytes) _ _ (n * (kinds + 1) + column) (omega (arith, length-drop 14 bytes, formed .size .is))
+      let place = n * (kinds + 1) + column in
+      getD-second (planContents count kinds) _ _ (length (bookBody bytes count) + place) (omega (arith, contents-long count kinds, body-long bytes count body-within))
+      ∙ getD-second (bookBody bytes count) _ _ place refl
       ∙ getD-lists (rowOf marks (bookOf bytes)) (kinds + 1) (length-row marks (bookOf bytes)) count 0 n column below within
       ∙ ap (λ (m : ℕ). getD (rowOf marks (bookOf bytes) m) column 0) (zero-add n)
 
-  -- 16-bit numbers of settings and nodes, six bytes further on than in the book
-  pub u16-copied : (at from : ℕ) → at ≡ from + 6 → 14 ≤ from → from + 2 ≤ 18 + 6 * count → u16At plan at ≡ u16At bytes from
+  -- 16-bit numbers of settings and nodes, so many bytes from where the settings begin
+  pub u16-copied : (at from i : ℕ) → at ≡ planSettingsAt + i → from ≡ settingsAt + i → at + 2 ≤ rowsAt count → u16At plan at ≡ u16At bytes from
   unfolding u16At
-  u16-copied at from is least most =
-      ap₂ (λ (low high : ℕ). low + 256 * high) (byte at from is least (omega arith)) (byte (at + 1) (from + 1) (omega arith) (omega arith) (omega arith))
-    where
-      byte : (at from : ℕ) → at ≡ from + 6 → 14 ≤ from → from < 18 + 6 * count → getD plan at 0 ≡ getD bytes from 0
-      byte at from is least most =
-          let place : at ≡ 20 + (from - 14) = omega arith in
-          let origin : 14 + (from - 14) ≡ from = omega arith in
-          rw place (byte-copied (from - 14) (omega arith) ∙ rw origin)
+  u16-copied at from i at-is from-is most =
+      ap₂ (λ (low high : ℕ). low + 256 * high) (byte-copied at from i at-is from-is (omega arith))
+      (byte-copied (at + 1) (from + 1) (i + 1) (omega arith) (omega arith) (omega arith))
 
-  small : planSize count kinds ≤ 36376
-  small = size-small count kinds (formed .size .few-nodes) (formed .few-kinds)
+  small : planSize count kinds < 65536
+  small = omega (arith, size-small count kinds (formed .size .few-nodes) (formed .few-kinds))
 
   -- the contents
   pub count-is : planCount plan ≡ count
-  unfolding planCount u16At planBytes bookOf planContents wordBytes
-  count-is = ap (λ (m : ℕ). m / 6) (word-is (6 * count) (omega (arith, small))) ∙ omega arith
+  unfolding planCount planBytes planContents bookOf
+  count-is = ap (λ (m : ℕ). m / 6) (u16-words (small-contents (planSections count kinds) small) _ 6 (omega arith)) ∙ omega arith
 
-  pub contents-are : planContentsGood plan count kinds ≡ true
-  unfolding u16At planBytes bookOf planContents wordBytes
-  contents-are =
-      rw (
-        word-is (6 * count) (omega (arith, small)),
-        word-is (rowsAt count) (omega (arith, small)),
-        word-is (count * (kinds + 1)) (omega (arith, small)),
-        eq-eqb (6 * count) (6 * count) refl,
-        eq-eqb (rowsAt count) (rowsAt count) refl,
-        eq-eqb (count * (kinds + 1)) (count * (kinds + 1)) refl,
-      )
+  pub contents-are : contentsAre plan (planSections count kinds) ≡ true
+  unfolding planBytes planContents bookOf
+  contents-are = contents-are-those (planSections count kinds) _ small
 
   pub kinds-is : planKinds plan ≡ kinds
   unfolding planKinds
-  kinds-is = u16-copied 20 14 refl (omega arith) (omega arith)
+  kinds-is = u16-copied _ _ 0 (omega arith) (omega arith) (omega arith)
 
   pub start-is : planStart plan ≡ u16At bytes (settingsAt + 2)
   unfolding planStart
-  start-is = u16-copied 22 16 refl (omega arith) (omega arith)
+  start-is = u16-copied _ _ 2 refl refl (omega arith)
 
   -- the nodes are the book's
   module _ (n : ℕ) (below : n < count) where
+    abbrev node-at : ℕ
+    node-at = planNodesAt - planSettingsAt + 6 * n
+
     type-is : typeAt plan planNodesAt n ≡ typeAt bytes nodesAt n
-    type-is = u16-copied _ _ (omega arith) (omega arith) (omega arith)
+    type-is = u16-copied _ _ node-at (omega arith) (omega arith) (omega arith)
 
     left-is : leftAt plan planNodesAt n ≡ leftAt bytes nodesAt n
-    left-is = u16-copied _ _ (omega arith) (omega arith) (omega arith)
+    left-is = u16-copied _ _ (node-at + 2) (omega arith) (omega arith) (omega arith)
 
     right-is : rightAt plan planNodesAt n ≡ rightAt bytes nodesAt n
-    right-is = u16-copied _ _ (omega arith) (omega arith) (omega arith)
+    right-is = u16-copied _ _ (node-at + 4) (omega arith) (omega arith) (omega arith)
 
     pub node-is : nodeAt plan planNodesAt n ≡ nodeAt bytes nodesAt n
     unfolding nodeAt

@@ -1,13 +1,12 @@
 -- The plan of a book of good form is judged done, and is the plan of the book's marks.
 use mathlib.Core.Path.{_≡_, refl, sym, ap, _∙_}
-use mathlib.Core.Bool.{Bool, true, false, not, _&&_, _||_, cond}
+use mathlib.Core.Bool.{Bool, true, false, not, _&&_, cond}
 use mathlib.Core.List.{List}
-use Prim.Native.Nat.{ℕ, _+_, _<_}
-use native.Mathlib.Decide.{decLt}
+use Prim.Native.Nat.{ℕ, _+_, _≤_, _<_}
 use native.Mathlib.Nat.{le-of-eq}
 use native.Mathlib.Omega.{arith}
 use borrow.Author.Tests.{eq-eqb, le-leb, lt-ltb}
-use lib.Dec.{leb, eqb}
+use lib.Dec.{eqb}
 use lib.ListN.{length}
 use Rattle.words.specs.Words.{u16At}
 use Rattle.words.proofs.Tests.{joined}
@@ -19,35 +18,35 @@ use Rattle.book.specs.declared.Node.the-variants.{Fail, Empty, Token, Either, T
 use Rattle.book.proofs.FirstBad.{first-none}
 use Rattle.book.proofs.Decoded.{Formed, nodes-below}
 use Rattle.running.specs.Cells.{Marks, cellOf, planFor}
-use Rattle.plan.specs.Form.{planNodesAt, planSettingsAt, planCount, planKinds, planStart, planOf, planFrom, cellAt, oneCell, otherCell}
-use Rattle.plan.specs.Form.{sizeGood, planNodesGood, planGood, planJudged}
+use Rattle.plan.specs.Form.{planNodesAt, planSettingsAt, planCount, planKinds, planStart, planOf, planFrom, sizeGood, planGood, hasCell, planJudged}
 use Rattle.running.specs.Running.{reading}
 use Rattle.writer.specs.Bytes.{planBytes}
 use Rattle.running.proofs.Agrees.{Agree, reading-agrees}
 use Rattle.plan.proofs.Children.{left-below, right-below}
-use Rattle.plan.proofs.Columns.{kind-column, last-column}
-use Rattle.plan.proofs.Laws.{first-all, cellGood, cells-done}
+use Rattle.plan.proofs.Laws.{CellsGood, cells-done}
+use Rattle.plan.proofs.Searches.{first-all}
 use Rattle.writer.proofs.PlanBytes.{size-is, count-is, kinds-is, start-is, contents-are, node-is, good-is, cell-is, mark-is}
 
--- a cell is 0 or one of two others, as a test
-abbrev Has : ℕ → ℕ → ℕ → Type 0
-Has one other cell = (eqb cell 0 || eqb cell one || eqb cell other) ≡ true
-
--- either of two cells, by a test
+-- what holds of both of two cells holds of the one that a test chooses
 chosen : (P : ℕ → Type 0) (b : Bool) {x y : ℕ} → P x → P y → P (cond b x y)
 chosen P true x y = x
 chosen P false x y = y
 
 -- the cells of the marks are ones that the node's type has
-cell-has : (marks : Marks) (k n : ℕ) (node : Node) → Has (oneCell node) (otherCell node) (cellOf marks k n node)
-unfolding cellOf
-cell-has marks k n Fail = refl
-cell-has marks k n Empty = refl
-cell-has marks k n (Token j) = chosen (Has 1 1) (marks .first n k) refl refl
-cell-has marks k n (Either l r) = chosen (Has 2 5) (marks .first n k) (chosen (Has 2 5) (marks .first l k) refl refl) refl
-cell-has marks k n (Then l r) = chosen (Has 3 4) (marks .first n k) (chosen (Has 3 4) (marks .null l && not (marks .first l k)) refl refl) refl
-cell-has marks k n (Tagged l t) = chosen (Has 2 2) (marks .first n k) refl refl
-cell-has marks k n (Ref l) = chosen (Has 2 2) (marks .first n k) refl refl
+module _ (marks : Marks) (k n : ℕ) where
+  abbrev Has : Node → ℕ → Type 0
+  Has node cell = hasCell node cell ≡ true
+
+  cell-has : (node : Node) → Has node (cellOf marks k n node)
+  unfolding cellOf
+  cell-has Fail = refl
+  cell-has Empty = refl
+  cell-has (Token j) = chosen (Has (Token j)) (marks .first n k) refl refl
+  cell-has (Either l r) = chosen (Has (Either l r)) (marks .first n k) (chosen (Has (Either l r)) (marks .first l k) refl refl) refl
+  cell-has (Then l r) =
+      chosen (Has (Then l r)) (marks .first n k) (chosen (Has (Then l r)) (marks .null l && not (marks .first l k)) refl refl) refl
+  cell-has (Tagged l t) = chosen (Has (Tagged l t)) (marks .first n k) refl refl
+  cell-has (Ref l) = chosen (Has (Ref l)) (marks .first n k) refl refl
 
 module _ (bytes : List ℕ) (marks : Marks) (form : Formed bytes) where
   abbrev count : ℕ
@@ -68,7 +67,7 @@ module _ (bytes : List ℕ) (marks : Marks) (form : Formed bytes) where
       rw (kinds-are, starts) (joined _ _ (joined _ _ (le-leb 1 _ (form .some-kind)) (le-leb _ 64 (form .few-kinds))) (lt-ltb _ _ (form .start-below))) in
       joined (sizeGood (length plan) count kinds) _
       (joined _ _ (joined _ _ (eq-eqb _ _ (size-is bytes marks form)) (le-leb 1 _ (form .size .some-node))) (le-leb _ 512 (form .size .few-nodes)))
-      (joined _ (planNodesGood plan count kinds) (joined _ _ (contents-are bytes marks form) settings)
+      (joined _ _ (joined _ _ (contents-are bytes marks form) settings)
       (le-leb count _ (le-of-eq (sym (first-all _ count (λ n below. good-is bytes marks form n below kinds count ∙ first-none _ count (form .nodes-good) n below))))))
 
   -- a node of the plan is the book's
@@ -76,25 +75,18 @@ module _ (bytes : List ℕ) (marks : Marks) (form : Formed bytes) where
   unfolding bookOf
   node-same n below = node-is bytes marks form n below ∙ sym (nodes-below bytes nodesAt count n below)
 
-  column-good : (n column : ℕ) → n < count → column < kinds + 1 → cellGood plan count kinds n column ≡ true
-  unfolding cellAt
-  column-good n column below within =
-      rw (node-same n below)
-      (elim (decLt column kinds) [
-        | yes kind ↦
-            kind-column plan _ kinds _ _ kind (sym (cell-is bytes marks form n column below kind)) (cell-has marks column n (bookOf bytes .node n))
-        | no past ↦
-            let last : column ≡ kinds = omega arith in
-            rw last (last-column plan _ kinds _ _ (sym (mark-is bytes marks form n below)) (mark-small (marks .null n)))
-      ])
-    where
-      mark-small : (b : Bool) → leb (cond b 1 0) 1 ≡ true
-      mark-small true = refl
-      mark-small false = refl
+  cells-are-good : CellsGood plan count kinds
+  cells-are-good =
+      record {
+        kind-cell =
+            λ n k below kind.
+            rw (node-same n below, cell-is bytes marks form n k below kind) (cell-has marks k n (bookOf bytes .node n));
+        last-cell = λ n below. rw (mark-is bytes marks form n below) (chosen (λ mark. mark ≤ 1) (marks .null n) (omega arith) (omega arith));
+      }
 
   pub plan-done : planJudged plan ≡ judged DONE 0
   unfolding planJudged
-  plan-done = rw (count-is bytes marks form, kinds-is bytes marks form, form-good) (cells-done plan count kinds column-good)
+  plan-done = rw (count-is bytes marks form, kinds-is bytes marks form, form-good) (cells-done plan count kinds cells-are-good)
 
   pub plan-agrees : Agree (planFor (bookOf bytes) marks) (planOf plan)
   unfolding planFrom bookOf

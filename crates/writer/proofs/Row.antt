@@ -5,12 +5,13 @@ use mathlib.Core.List.{List, [], _∷_, _++_}
 use Prim.Native.Nat.{ℕ, _+_, _<_}
 use borrow.Author.Tests.{lt-ltb}
 use Rattle.kinds.specs.Kinds.{has?}
+use Rattle.words.specs.Lists.{valuesFrom}
 use Rattle.book.specs.Book.{Book, leftOf}
 use Rattle.book.specs.declared.Node.{Node}
 use Rattle.book.specs.declared.Node.the-variants.{Fail, Empty, Token, Either, Then, Tagged, Ref}
 use Rattle.running.specs.Cells.{cellOf}
-use Rattle.plan.specs.Form.{oneCell}
-use Rattle.writer.specs.Bytes.{valuesFrom, rowOf}
+use Rattle.plan.specs.Rows.{oneCell}
+use Rattle.writer.specs.Bytes.{rowOf}
 use Rattle.writer.specs.Table.{nullSet, firstSet, marksOf, farCell, cellBy, rowBy}
 
 same-cells : (first left : Bool) (cell : ℕ) → cond first (cond left cell cell) 0 ≡ cond first cell 0

@@ -11,13 +11,13 @@ use lib.ListN.{length, getD, set, length-set}
 use lib.Seq.{sets, length-sets, getD-set-same, getD-set-other, ext-getD}
 use Rattle.kinds.specs.Kinds.{Has, has?, withoutKind, lowestKind}
 use Rattle.kinds.proofs.Laws.{has?-is, has-without, without-less, lowest-is}
+use Rattle.words.specs.Lists.{valuesFrom}
 use Rattle.words.specs.Words.{zeros}
+use Rattle.words.proofs.Lists.{length-values}
+use Rattle.words.proofs.Stored.{sets-one}
 use Rattle.words.proofs.Tests.{fails}
 use Rattle.rules.proofs.Growing.{blank-zeros}
-use Rattle.writer.specs.Bytes.{valuesFrom}
 use Rattle.writer.specs.Table.{cellBy, rowBy, ClearFrom}
-use Rattle.writer.proofs.Listed.{length-values}
-use Rattle.writer.proofs.Stored.{sets-one}
 
 -- a place is none of so many from another on
 abbrev Apart : ℕ → ℕ → ℕ → Type 0

@@ -1,52 +1,15 @@
--- Storing into a list, element by element: runs of stores one after the other, and loops that store values.
+-- Storing into a list, element by element: into zeros, and loops that store values.
 use mathlib.Core.Path.{_≡_, refl, sym, ap, _∙_}
 use mathlib.Core.List.{List, [], _∷_, _++_}
-use Prim.Native.Nat.{ℕ, zero, suc, _+_, _*_, _-_, _≤_, _<_}
+use Prim.Native.Nat.{ℕ, zero, suc, _+_, _-_, _≤_, _<_}
 use native.Mathlib.Nat.{add-zero, zero-add}
 use native.Mathlib.Numerals.{add-one}
 use native.Mathlib.Omega.{arith}
-use lib.ListN.{length, getD, set, drop, length-set, length-replicate, drop-of-length-le}
-use lib.Seq.{sets, length-sets, sets-eq, drop-cons}
-use Rattle.words.specs.Words.{withU16, zeros}
-use Rattle.writer.specs.Bytes.{wordBytes, planContents, valuesFrom, listsFrom}
-
--- one run of stores after another
-pub sets-append : (l : List ℕ) (at : ℕ) (xs ys : List ℕ) → sets (sets l at xs) (at + length xs) ys ≡ sets l at (xs ++ ys)
-sets-append l at [] ys = rw add-zero
-sets-append l at (x ∷ xs) ys = rw (next) (sets-append (set l at x) (suc at) xs ys)
-  where
-    next : at + suc (length xs) ≡ suc at + length xs
-    next = omega arith
-
--- the same, by the place behind the first run
-pub sets-then : (l : List ℕ) (at : ℕ) (xs : List ℕ) (next : ℕ) (ys : List ℕ) → next ≡ at + length xs → sets (sets l at xs) next ys ≡ sets l at (xs ++ ys)
-sets-then l at xs next ys is = rw is (sets-append l at xs ys)
-
--- one store after a run
-pub sets-one : (l : List ℕ) (at : ℕ) (xs : List ℕ) (next x : ℕ) → next ≡ at + length xs → set (sets l at xs) next x ≡ sets l at (xs ++ (x ∷ []))
-sets-one l at xs next x is = sets-then l at xs next (x ∷ []) is
-
--- a stored 16-bit number is a run of two stores
-pub sets-word : (l : List ℕ) (at value : ℕ) → withU16 l at value ≡ sets l at (wordBytes (value ∷ []))
-unfolding withU16 wordBytes
-sets-word l at value = rw add-one
-
--- a contents entry is a run of three numbers
-pub entry-stored : (l : List ℕ) {one two three : List ℕ} (at section offset size : ℕ) → one ≡ withU16 l at section → two ≡ withU16 one (at + 2) offset
-    → three ≡ withU16 two (at + 4) size → three ≡ sets l at (wordBytes (section ∷ offset ∷ size ∷ []))
-unfolding wordBytes
-entry-stored l at section offset size first second third =
-    third
-    ∙ rw (second, first, sets-word l at section, sets-word _ (at + 2) offset, sets-word _ (at + 4) size)
-    (ap (λ (m : List ℕ). sets m (at + 4) (wordBytes (size ∷ []))) (sets-then l at (wordBytes (section ∷ [])) (at + 2) (wordBytes (offset ∷ [])) refl)
-    ∙ sets-then l at (wordBytes (section ∷ offset ∷ [])) (at + 4) (wordBytes (size ∷ [])) refl)
-
--- contents are the number of sections and three entries
-pub contents-stored : (l : List ℕ) {one two three four : List ℕ} (count kinds : ℕ) → one ≡ withU16 l 0 3
-    → two ≡ sets one 2 (wordBytes (1 ∷ 20 ∷ 4 ∷ [])) → three ≡ sets two 8 (wordBytes (2 ∷ 24 ∷ (6 * count) ∷ []))
-    → four ≡ sets three 14 (wordBytes (3 ∷ (24 + 6 * count) ∷ (count * (kinds + 1)) ∷ [])) → four ≡ sets l 0 (planContents count kinds)
-unfolding withU16 wordBytes planContents
-contents-stored l count kinds first second third fourth = fourth ∙ rw (third, second, first)
+use lib.ListN.{length, getD, set, drop, length-set, length-replicate}
+use lib.Seq.{sets, length-sets, sets-eq, slice, slice-empty, slice-cons}
+use Rattle.words.specs.Lists.{valuesFrom, listsFrom}
+use Rattle.words.specs.Words.{zeros}
+use Rattle.words.proofs.Stored.{sets-then}
 
 -- a run from the front of zeros, and zeros behind it
 pub sets-zeros : (room : ℕ) (xs : List ℕ) → length xs ≤ room → sets (zeros room) 0 xs ≡ xs ++ zeros (room - length xs)
@@ -90,21 +53,24 @@ module _ (value : ℕ → ℕ) where
     unfolding valuesFrom
     stored-all past = let none : count - k ≡ 0 = omega arith in rw none at (s .rest)
 
--- a list's elements from a place on
-pub drop-values : (l : List ℕ) (from : ℕ) → valuesFrom (λ i. getD l (from + i) 0) (length l - from) 0 ≡ drop from l
+-- so many elements of a list from a place on
+slice-values : (l : List ℕ) (from size : ℕ) → from + size ≤ length l → valuesFrom (λ i. getD l (from + i) 0) size 0 ≡ slice from (from + size) l
 unfolding valuesFrom
-drop-values l from = go (length l - from) 0 (omega arith) ∙ ap (λ (i : ℕ). drop i l) (add-zero from)
+slice-values l from size fits = go size 0 (omega arith) ∙ ap (λ (i : ℕ). slice i (from + size) l) (add-zero from)
   where
-    go : (left n : ℕ) → left ≡ length l - (from + n) → valuesFrom (λ i. getD l (from + i) 0) left n ≡ drop (from + n) l
-    go zero n is = sym (drop-of-length-le l {i = from + n} (omega arith))
+    go : (left n : ℕ) → n + left ≡ size → valuesFrom (λ i. getD l (from + i) 0) left n ≡ slice (from + n) (from + size) l
+    go zero n is = sym (ap (λ (i : ℕ). slice i (from + size) l) {x = from + n} {y = from + size} (omega arith) ∙ slice-empty (from + size) l)
     go (suc left) n is =
-        rw (drop-cons l (from + n) 0 (omega arith)) (ap (λ (r : List ℕ). getD l (from + n) 0 ∷ r) (go left (suc n) (omega arith) ∙ ap (λ (i : ℕ). drop i l) {x = from + suc n} {y = suc (from + n)} (omega arith)))
+        ap (λ (r : List ℕ). getD l (from + n) 0 ∷ r)
+        (go left (suc n) (omega arith) ∙ ap (λ (i : ℕ). slice i (from + size) l) {x = from + suc n} {y = suc (from + n)} (omega arith))
+        ∙ sym (slice-cons (from + n) (from + size) l 0 (omega arith) (omega arith))
 
--- a loop that has copied a list's elements from a place on
-module _ (l : List ℕ) (from : ℕ) where
-  pub stored-copy : {before after : List ℕ} {at k : ℕ} → Stored (λ i. getD l (from + i) 0) before after at (length l - from) k
-      → length l - from ≤ k → after ≡ sets before at (drop from l)
-  stored-copy {before} {after} {at} s past = stored-all _ s past ∙ ap (sets before at) (drop-values l from)
+-- a loop that has copied so many elements of a list from a place on
+pub stored-copy : (l : List ℕ) (from to : ℕ) {size : ℕ} {before after : List ℕ} {at k : ℕ}
+    → Stored (λ i. getD l (from + i) 0) before after at size k → size ≤ k → to ≡ from + size → to ≤ length l
+    → after ≡ sets before at (slice from to l)
+stored-copy l from to {size} {before} {after} {at} s past is fits =
+    stored-all _ s past ∙ ap (sets before at) (slice-values l from size (omega arith) ∙ ap (λ (end : ℕ). slice from end l) (sym is))
 
 -- a loop that stores so many lists, one behind the other, has come to the n-th, which begins at a place
 pub record ListsStored (list : ℕ → List ℕ) (before after : List ℕ) (from count at n : ℕ) : Type 0 where

@@ -2,12 +2,14 @@
 use mathlib.Core.Path.{_≡_, sym, ap, ap₂, _∙_}
 use mathlib.Core.Bool.{cond}
 use mathlib.Core.List.{List, _++_, append-assoc}
-use Prim.Native.Nat.{ℕ, _+_, _-_, _≤_, _<_}
+use Prim.Native.Nat.{ℕ, _+_, _*_, _-_, _≤_, _<_}
 use native.Mathlib.Omega.{arith}
-use lib.ListN.{length, drop, length-drop, length-append}
+use lib.ListN.{length, length-append}
 use lib.Seq.{sets, length-sets}
 use Rattle.kinds.specs.Kinds.{has?}
+use Rattle.words.specs.Lists.{listsFrom}
 use Rattle.words.specs.Words.{zeros}
+use Rattle.words.proofs.Stored.{sets-then}
 use Rattle.book.specs.Book.{leftOf}
 use Rattle.book.specs.Decode.{nodeAt}
 use Rattle.book.specs.Form.{nodesAt, bookOf}
@@ -16,16 +18,17 @@ use Rattle.book.proofs.Decoded.{Formed, formed, nodes-below}
 use Rattle.rules.specs.declared.NodeFacts.{NodeFacts}
 use Rattle.rules.specs.Facts.{factsAt}
 use Rattle.running.specs.Cells.{Marks}
-use Rattle.plan.specs.Form.{rowsAt, rowAt, planSize, oneCell}
-use Rattle.writer.specs.Bytes.{listsFrom, planContents, rowOf, rowsOf, planBytes}
+use Rattle.plan.specs.Form.{planSettingsAt, rowsAt, rowAt, planSize}
+use Rattle.plan.specs.Rows.{oneCell}
+use Rattle.writer.specs.Bytes.{planContents, bookBody, rowOf, rowsOf, planBytes}
 use Rattle.writer.specs.Table.{marksOf, farCell, rowBy, Writable, ClearFrom}
 use Rattle.plan.proofs.Children.{left-below}
 use Rattle.plan.proofs.Laws.{size-small}
-use Rattle.writer.proofs.PlanBytes.{length-contents, length-row, size-is}
+use Rattle.writer.proofs.PlanBytes.{contents-long, body-long, length-row, size-is}
 use Rattle.writer.proofs.Row.{row-by}
 use Rattle.plan.proofs.Rows.{row-within}
 use Rattle.writer.proofs.Sparse.{clear-zeros, clear-behind}
-use Rattle.writer.proofs.Stored.{sets-then, sets-zeros}
+use Rattle.writer.proofs.Stored.{sets-zeros}
 
 -- a buffer of the same length serves as well
 pub writable-kept : {book table plan other : List ℕ} {count kinds : ℕ} → length other ≡ length plan → Writable book table plan count kinds
@@ -78,15 +81,22 @@ module _ {book table plan : List ℕ} {count kinds : ℕ} (w : Writable book tab
     row-is left-is facts-are left-facts-are near-is far-is skip-is mark-is =
         rw (mark-is, far-is, skip-is, facts-are, left-facts-are, near-is, left-is, ← looked-up, w .kinds-is) (row-by table count n below (bookOf book) (rw looked-up left-small))
 
+  -- the book's settings and nodes stand in it, and have room before the rows
+  pub body-within : nodesAt + 6 * count ≤ length book
+  body-within = omega (arith, book-formed .size .is, w .count-is)
+
+  pub rows-within : rowsAt count ≤ length plan
+  rows-within = omega (arith, w .plan-long)
+
   -- contents, settings and nodes stored in a clear buffer leave it clear where the rows begin
-  pub rows-ready : {one two : List ℕ} → plan ≡ zeros (length plan) → one ≡ sets plan 0 (planContents count kinds) → two ≡ sets one 20 (drop 14 book)
-      → Writable book table two count kinds × ClearFrom two (rowsAt count)
+  pub rows-ready : {one two : List ℕ} → plan ≡ zeros (length plan) → one ≡ sets plan 0 (planContents count kinds)
+      → two ≡ sets one planSettingsAt (bookBody book count) → Writable book table two count kinds × ClearFrom two (rowsAt count)
   rows-ready {one} {two} clear first second = (
-    writable-kept (ap length second ∙ length-sets one 20 (drop 14 book) ∙ ap length first ∙ length-sets plan 0 (planContents count kinds)) w,
-    clear-behind (drop 14 book)
-        (clear-behind {behind = 20} (planContents count kinds) (clear-zeros (length plan) 0 clear) first (omega (arith, length-contents count kinds)))
+    writable-kept (ap length second ∙ length-sets one planSettingsAt (bookBody book count) ∙ ap length first ∙ length-sets plan 0 (planContents count kinds)) w,
+    clear-behind (bookBody book count)
+        (clear-behind {behind = planSettingsAt} (planContents count kinds) (clear-zeros (length plan) 0 clear) first (omega (arith, contents-long count kinds)))
         second
-        (omega (arith, length-drop 14 book, book-formed .size .is, w .count-is)),
+        (sym (body-long book count body-within)),
   )
 
   -- contents, settings and nodes, and rows, stored one behind the other in a cleared buffer, are the plan and zeros behind it
@@ -94,27 +104,28 @@ module _ {book table plan : List ℕ} {count kinds : ℕ} (w : Writable book tab
     abbrev rows : List ℕ
     rows = rowsOf marks (bookOf book)
 
-    parts-are : planContents count kinds ++ (drop 14 book ++ rows) ≡ planBytes book marks
+    parts-are : planContents count kinds ++ (bookBody book count ++ rows) ≡ planBytes book marks
     unfolding planBytes bookOf
-    parts-are = ap₂ (λ (c k : ℕ). planContents c k ++ (drop 14 book ++ rows)) (w .count-is) (w .kinds-is)
+    parts-are = ap₂ (λ (c k : ℕ). planContents c k ++ (bookBody book c ++ rows)) (w .count-is) (w .kinds-is)
 
     pub plan-written : {cleared one two three : List ℕ} → cleared ≡ zeros (length plan) → one ≡ sets cleared 0 (planContents count kinds)
-        → two ≡ sets one 20 (drop 14 book) → three ≡ sets two (rowsAt count) rows
+        → two ≡ sets one planSettingsAt (bookBody book count) → three ≡ sets two (rowsAt count) rows
         → three ≡ planBytes book marks ++ zeros (length plan - planSize count kinds)
     plan-written clear first second third =
         third
         ∙ rw (second, first, clear)
-        (ap (λ (l : List ℕ). sets l (rowsAt count) rows) (sets-then (zeros (length plan)) 0 contents 20 (drop 14 book) (omega (arith, contents-long)))
-        ∙ sets-then (zeros (length plan)) 0 (contents ++ drop 14 book) (rowsAt count) rows
-        (omega (arith, contents-long, length-append contents (drop 14 book), length-drop 14 book, book-formed .size .is, w .count-is))
+        (ap (λ (l : List ℕ). sets l (rowsAt count) rows)
+        (sets-then (zeros (length plan)) 0 contents planSettingsAt body (omega (arith, contents-long count kinds)))
+        ∙ sets-then (zeros (length plan)) 0 (contents ++ body) (rowsAt count) rows
+        (omega (arith, contents-long count kinds, length-append contents body, body-long book count body-within))
         ∙ rw (append-assoc, parts-are)
         (sets-zeros (length plan) (planBytes book marks) (omega (arith, size, w .plan-long)) ∙ ap (λ (m : ℕ). planBytes book marks ++ zeros (length plan - m)) size))
       where
         contents : List ℕ
         contents = planContents count kinds
 
-        contents-long : length contents ≡ 20
-        contents-long = length-contents count kinds
+        body : List ℕ
+        body = bookBody book count
 
         size : length (planBytes book marks) ≡ planSize count kinds
         size = rw (w .count-is, w .kinds-is) (size-is book marks book-formed)

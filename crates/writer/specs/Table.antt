@@ -6,6 +6,7 @@ use mathlib.Core.List.{List, [], _∷_, _++_}
 use lib.Dec.{ltb}
 use lib.ListN.{length, getD}
 use Rattle.kinds.specs.Kinds.{has?}
+use Rattle.words.specs.Lists.{valuesFrom}
 use Rattle.words.specs.Words.{u16At}
 use Rattle.book.specs.Form.{DONE, countOf, settingsAt, formOf}
 use Rattle.book.specs.declared.Node.{Node}
@@ -13,7 +14,6 @@ use Rattle.book.specs.declared.Node.the-variants.{Fail, Empty, Token, Either, T
 use Rattle.rules.specs.Facts.{tableSize, factsAt}
 use Rattle.running.specs.Cells.{Marks}
 use Rattle.plan.specs.Form.{planSize}
-use Rattle.writer.specs.Bytes.{valuesFrom}
 
 -- the sets of a node in a table of facts: nullable (no kind or all kinds), and FIRST
 abbrev pub nullSet : List ℕ → ℕ → ℕ

@@ -1,18 +1,19 @@
 // Writing the plan of a book.
 ghost use mathlib.Core.Path.{_≡_};
 ghost use Prim.Native.Nat.{_+_, _*_, _-_, _≤_, _<_};
-ghost use mathlib.Core.List.{[], _∷_, _++_};
+ghost use mathlib.Core.List.{_++_};
 ghost use mathlib.Core.Bool.{cond};
-ghost use lib.ListN.{length, drop};
+ghost use lib.ListN.{length};
 ghost use lib.Seq.{sets};
 ghost use Rattle.words.specs.Words.{zeros};
 ghost use Rattle.book.specs.Book.{leftOf};
-ghost use Rattle.book.specs.Form.{bookOf};
-ghost use Rattle.plan.specs.Form.{planSize, rowsAt, rowAt};
-ghost use Rattle.writer.specs.Bytes.{wordBytes, planContents, rowOf, rowsOf, planBytes};
+ghost use Rattle.book.specs.Form.{nodesAt, bookOf};
+ghost use Rattle.plan.specs.Form.{planSize, planSettingsAt, rowsAt, rowAt};
+ghost use Rattle.writer.specs.Bytes.{planContents, bookBody, rowOf, rowsOf, planBytes};
 ghost use Rattle.writer.specs.Table.{marksOf, farCell, rowBy, Writable, ClearFrom};
 use book::Node;
 use book::node_at;
+use forms::put_contents;
 use kinds::has;
 use kinds::lowest;
 use kinds::without;
@@ -20,35 +21,22 @@ use plan::NODES_AT;
 use plan::SETTINGS_AT;
 use plan::one_cell;
 use rules::facts_at;
-use words::put_u16;
 
-// Writes a contents entry: section number, offset, length.
-fn put_entry(plan: &mut [u8], at: usize, section: usize, offset: usize, size: usize)
-    requires { ⌜ (at + 6 ≤ length (now plan)) × (section < 65536) × (offset < 65536) × (size < 65536) ⌝ }
-    ensures { λ _. ⌜ now (plan .exit) ≡ sets (now (plan .entry)) at (wordBytes (section ∷ offset ∷ size ∷ [])) ⌝ }
-{
-    put_u16(plan, at, section);
-    put_u16(plan, at + 2, offset);
-    put_u16(plan, at + 4, size);
-}
-
-// Writes a plan's contents: count 3, and the entries of settings, nodes and rows.
-fn put_contents(plan: &mut [u8], count: usize, kinds: usize)
+// Writes a plan's contents.
+fn put_plan_contents(plan: &mut [u8], count: usize, kinds: usize)
     requires { ⌜ (planSize count kinds ≤ length (now plan)) × (planSize count kinds < 65536) × (kinds < 65536) ⌝ }
     ensures { λ _. ⌜ now (plan .exit) ≡ sets (now (plan .entry)) 0 (planContents count kinds) ⌝ }
 {
-    put_u16(plan, 0, 3);
-    put_entry(plan, 2, 1, SETTINGS_AT, 4);
-    put_entry(plan, 8, 2, NODES_AT, 6 * count);
-    put_entry(plan, 14, 3, NODES_AT + 6 * count, count * (kinds + 1));
+    let sizes = [4, 6 * count, count * (kinds + 1)];
+    put_contents(plan, &sizes);
 }
 
 // Writes a book's settings and nodes.
-fn put_book(plan: &mut [u8], book: &[u8])
-    requires { ⌜ (14 ≤ length (now book)) × (6 + length (now book) ≤ length (now plan)) ⌝ }
-    ensures { λ _. ⌜ now (plan .exit) ≡ sets (now (plan .entry)) 20 (drop 14 (now (book .entry))) ⌝ }
+fn put_book(plan: &mut [u8], book: &[u8], count: usize)
+    requires { ⌜ (nodesAt + 6 * count ≤ length (now book)) × (rowsAt count ≤ length (now plan)) ⌝ }
+    ensures { λ _. ⌜ now (plan .exit) ≡ sets (now (plan .entry)) planSettingsAt (bookBody (now (book .entry)) count) ⌝ }
 {
-    let size = book.len() - book::SETTINGS_AT;
+    let size = NODES_AT + 6 * count - SETTINGS_AT;
     let mut i = 0;
     while i < size {
         plan[SETTINGS_AT + i] = book[book::SETTINGS_AT + i];
@@ -170,7 +158,7 @@ pub fn write_plan(book: &[u8], count: usize, kinds: usize, table: &[u64], plan: 
     requires { ⌜ Writable (now book) (now table) (now plan) count kinds × (now plan ≡ zeros (length (now plan))) ⌝ }
     ensures { λ _. ⌜ now (plan .exit) ≡ planBytes (now (book .entry)) (marksOf (now (table .entry)) count) ++ zeros (length (now (plan .entry)) - planSize count kinds) ⌝ }
 {
-    put_contents(plan, count, kinds);
-    put_book(plan, book);
+    put_plan_contents(plan, count, kinds);
+    put_book(plan, book, count);
     write_rows(book, count, kinds, table, plan);
 }

@@ -8,14 +8,11 @@ pub mod listing;
 pub mod read;
 pub mod sorts;
 
-use crate::answers::{Compiled, Formed, Reading};
+use crate::answers::{Compiled, Reading};
 use crate::books::random::Random;
 use lender::{Lender, Lending, Raw};
 use sorts::Sort;
 use std::fmt::LowerHex;
-
-/// A form test.
-pub type Form = fn(&[u8]) -> Formed;
 
 /// A compiler.
 pub type Compile = fn(&[u8], &mut [u8]) -> Compiled;

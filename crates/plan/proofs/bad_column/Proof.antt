@@ -6,7 +6,7 @@ use native.Mathlib.Omega.{arith}
 use borrow.Author.Needs.{needs}
 use borrow.Author.Tests.{not-true, not-false, le-leb, lt-leb}
 use Rattle.book.proofs.FirstBad.{Searched, searched-none, searched-more, searched-bad, searched-all}
-use Rattle.plan.specs.Form.{columnGood, badColumn}
+use Rattle.plan.specs.Rows.{columnGood, badColumn}
 use Rattle.plan.proofs.Columns.{kind-column, last-column, at-last}
 use Rattle.plan.proofs.bad_column.Statement.{statement}
 use Rattle.plan.proofs.bad_column.Tie as tie

@@ -1,14 +1,12 @@
 -- `plan::judge_cells` meets its contract. The loop's invariant: what is left to search gives the answer, and `at` is where the row begins. The
 -- measure is what is left of the count.
-use mathlib.Core.Path.{_≡_, refl, sym, ap, _∙_}
-use mathlib.Core.Bool.{false}
+use mathlib.Core.Path.{_≡_, refl, sym, _∙_}
 use Prim.Native.Nat.{_+_, _-_, _≤_}
 use native.Mathlib.Omega.{arith}
 use borrow.Author.Needs.{needs}
 use borrow.Author.Tests.{not-true, not-false, ltb-false}
-use lib.Dec.{ltb}
-use Rattle.plan.specs.Form.{rowsAt, planSize, badIn, rowGood}
-use Rattle.plan.proofs.Rows.{RowsSearched, rows-none, found-is, rows-more, rows-bad, rows-all, row-within}
+use Rattle.plan.specs.Form.{rowsAt, planSize}
+use Rattle.plan.proofs.Rows.{RowsSearched, rows-none, CellsOf, cells-of, rows-more, rows-bad, rows-all, row-within}
 use Rattle.plan.proofs.judge_cells.Statement.{statement}
 use Rattle.plan.proofs.judge_cells.Tie as tie
 
@@ -40,23 +38,17 @@ one-cell-requires c κs = search needs
 other-cell-requires : tie.Need-other-cell-requires Inv-loop μ-loop
 other-cell-requires c κs = search needs
 
--- the test of a row is the definition's, for the node's own cells
-tested : (c : tie.After-row-good Inv-loop μ-loop) → c .row-good .result ≡ rowGood (c .before .before .before .before .before .before .before .args .plan .now) (c .before .before .before .before .before .before .before .args .count) (c .before .before .before .before .before .before .before .args .kinds) (c .before .before .before .before .before .loop .n)
-tested c =
-    c .row-good .ensures
-    ∙ ap (ltb (c .before .before .before .before .before .before .before .args .kinds)) (found-is _ _ _ (c .before .before .before .before .before .loop .inv .1) (c .before .before .before .node-at .ensures) (c .before .before .one-cell .ensures) (c .before .other-cell .ensures))
+-- the two cells that a row is tested for are those of its node's type
+cells : (c : tie.After-row-good Inv-loop μ-loop)
+    → CellsOf (c .before .before .before .before .before .before .before .args .count) (c .before .before .before .before .before .before .before .args .kinds)
+    (c .before .before .before .before .before .before .before .args .plan .now) (c .before .before .before .before .before .loop .n)
+    (c .before .before .one-cell .result) (c .before .other-cell .result)
+cells c = cells-of _ _ _ (c .before .before .before .node-at .ensures) (c .before .before .one-cell .ensures) (c .before .other-cell .ensures)
 
--- a row that is left has a bad cell, in the column that the search gives
-row-bad : (c : tie.Then1 Inv-loop μ-loop) → rowGood (c .before .before .before .before .before .before .before .before .args .plan .now) (c .before .before .before .before .before .before .before .before .args .count) (c .before .before .before .before .before .before .before .before .args .kinds) (c .before .before .before .before .before .before .loop .n) ≡ false
-row-bad c = sym (tested (c .before)) ∙ not-true _ (c .if1 .taken)
-
-found : (c : tie.After-bad-column Inv-loop μ-loop) → c .bad-column .result ≡ badIn (c .before .before .before .before .before .before .before .before .before .args .plan .now) (c .before .before .before .before .before .before .before .before .before .args .count) (c .before .before .before .before .before .before .before .before .before .args .kinds) (c .before .before .before .before .before .before .before .loop .n)
-found c =
-    c .bad-column .ensures
-    ∙ found-is _ _ _ (c .before .before .before .before .before .before .before .loop .inv .1) (c .before .before .before .before .before .node-at .ensures) (c .before .before .before .before .one-cell .ensures) (c .before .before .before .other-cell .ensures)
-
+-- the column that is found is one of the row's
 column-small : (c : tie.After-bad-column Inv-loop μ-loop) → c .bad-column .result ≤ c .before .before .before .before .before .before .before .before .before .args .kinds
-column-small c = rw (found c) (ltb-false _ _ (row-bad (c .before)))
+column-small c =
+    rw (c .bad-column .ensures) (ltb-false _ _ (sym (c .before .before .row-good .ensures) ∙ not-true _ (c .before .if1 .taken)))
 
 row-good-requires : tie.Need-row-good-requires Inv-loop μ-loop
 row-good-requires c κs = omega (arith, row-in (c .before .before .before))
@@ -74,7 +66,11 @@ cast-t16 : tie.Need-cast-t16 Inv-loop μ-loop
 cast-t16 c = omega (arith, column-small c, row-in (c .before .before .before .before .before .before))
 
 returns : tie.Need-returns Inv-loop μ-loop
-returns c = rows-bad _ _ _ (c .before .before .before .before .before .before .before .loop .inv .1) (c .before .before .before .before .before .before .loop-test .taken) (row-bad (c .before)) (found c)
+returns c =
+    let tested = c .before .before in
+    let turn = tested .before .before .before .before in
+    rows-bad _ _ _ (turn .before .loop .inv .1) (turn .loop-test .taken) (cells tested)
+    (tested .row-good .ensures) (not-true _ (c .before .if1 .taken)) (c .bad-column .ensures)
 
 add-at : tie.Need-add-at Inv-loop μ-loop
 add-at c = omega (arith, row-in (c .before .before .before .before .before))
@@ -89,10 +85,13 @@ loop-less : tie.Need-loop-less Inv-loop μ-loop
 loop-less c = search needs
 
 loop-again : tie.Need-loop-again Inv-loop μ-loop
-loop-again c = (
-  search needs,
-  rows-more _ _ _ (c .before .before .before .before .before .before .loop .inv .1) (c .before .before .before .before .before .loop-test .taken) (sym (tested (c .before)) ∙ not-false _ (c .if1 .left)),
-)
+loop-again c =
+    let tested = c .before in
+    let turn = tested .before .before .before .before in (
+      search needs,
+      rows-more _ _ _ (turn .before .loop .inv .1) (turn .loop-test .taken) (cells tested)
+          (tested .row-good .ensures) (not-false _ (c .if1 .left)),
+    )
 
 returns-2 : tie.Need-returns-2 Inv-loop μ-loop
 returns-2 c = rows-all _ _ _ (c .before .loop .inv .1) (c .loop-test .left)

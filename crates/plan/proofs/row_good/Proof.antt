@@ -3,7 +3,7 @@ use mathlib.Core.Path.{refl}
 use Prim.Native.Nat.{_-_, _≤_}
 use native.Mathlib.Omega.{arith}
 use borrow.Author.Needs.{needs}
-use Rattle.plan.specs.Form.{columnGood, badColumn}
+use Rattle.plan.specs.Rows.{columnGood, badColumn}
 use Rattle.plan.proofs.Columns.{kind-column, last-column, at-last}
 use Rattle.plan.proofs.Joined.{Joined, joined-none, joined-more, joined-all}
 use Rattle.plan.proofs.row_good.Statement.{statement}

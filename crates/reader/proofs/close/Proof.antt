@@ -1,5 +1,5 @@
 -- `reader::close` meets its contract: the parts taken off come to an accepted run, or to END at the place.
-use mathlib.Core.Path.{ap, _∙_}
+use mathlib.Core.Path.{ap}
 use native.Mathlib.Omega.{arith}
 use borrow.Author.Needs.{needs}
 use Rattle.plan.specs.Form.{planFrom}

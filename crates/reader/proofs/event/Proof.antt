@@ -1,6 +1,6 @@
 -- `reader::event` meets its contract. The loop's invariant: taking the parts left off comes to the event's end, and the state is sound. The
 -- measure is the parts left.
-use mathlib.Core.Path.{_≡_, refl, sym, _∙_}
+use mathlib.Core.Path.{refl, sym, _∙_}
 use Prim.Native.Nat.{_+_, _<_}
 use native.Mathlib.Omega.{arith}
 use lib.ListN.{length}

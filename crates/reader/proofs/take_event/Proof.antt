@@ -1,6 +1,4 @@
 -- `reader::take_event` meets its contract: the event, and its answer by the part held last before it.
-use mathlib.Core.Path.{_≡_}
-use Prim.Native.Nat.{_<_}
 use borrow.Author.Needs.{needs}
 use Rattle.plan.proofs.Runnable.{some-node}
 use Rattle.reader.specs.Machine.{after}

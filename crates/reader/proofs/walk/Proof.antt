@@ -1,7 +1,7 @@
 -- `reader::walk` meets its contract. The loop's invariant: what is left of the walk comes to the whole walk's end, and the state is sound.
 -- The measure is the visits left.
 use mathlib.Core.Path.{_≡_, refl, sym, ap, _∙_}
-use Prim.Native.Nat.{ℕ, suc, _+_, _*_, _-_, _≤_, _<_}
+use Prim.Native.Nat.{ℕ, _+_, _*_, _-_, _≤_, _<_}
 use native.Mathlib.Nat.{sub-zero}
 use native.Mathlib.Omega.{arith}
 use lib.ListN.{length}

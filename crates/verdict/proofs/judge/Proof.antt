@@ -21,16 +21,16 @@ good c = record { form = form-is (c .before); count-is = c .count-of .ensures �
 form-requires : tie.Need-form-requires
 form-requires c κs = search needs
 
-cast-answered : tie.Need-cast-answered
-cast-answered c = search needs
+cast-verdict-of : tie.Need-cast-verdict-of
+cast-verdict-of c = search needs
 
-answered-requires : tie.Need-answered-requires
-answered-requires c κs = search needs
+verdict-of-requires : tie.Need-verdict-of-requires
+verdict-of-requires c κs = search needs
 
 returns : tie.Need-returns
 returns c =
     let tested = c .before .before in
-    rw (c .answered .ensures) (answered-malformed (tested .before .before .form .ensures) (tested .if1 .taken))
+    rw (c .verdict-of .ensures) (answered-malformed (tested .before .before .form .ensures) (tested .if1 .taken))
 
 count-of-requires : tie.Need-count-of-requires
 count-of-requires c κs = omega (arith, book-long (record { form = form-is c; count-is = book-count _ }))
@@ -60,8 +60,8 @@ judge-spec =
     tie.close
     (tie.spec
     form-requires
-    cast-answered
-    answered-requires
+    cast-verdict-of
+    verdict-of-requires
     returns
     count-of-requires
     least-facts-requires

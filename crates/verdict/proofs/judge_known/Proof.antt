@@ -38,15 +38,15 @@ facts-at-requires c κs =
 has-requires : tie.Need-has-requires
 has-requires c κs = search needs
 
-answered-requires : tie.Need-answered-requires
-answered-requires c κs = search needs
+verdict-of-requires : tie.Need-verdict-of-requires
+verdict-of-requires c κs = search needs
 
 returns : tie.Need-returns
 returns c =
     let tested = c .before in
     let read = tested .before .before .before in
     let known = read .before .before .before .pre in
-    rw (c .answered .ensures) (answered-barren known (start-is read) (test-is (tested .before) ∙ not-true _ (tested .if1 .taken)))
+    rw (c .verdict-of .ensures) (answered-barren known (start-is read) (test-is (tested .before) ∙ not-true _ (tested .if1 .taken)))
 
 slice-aggregate-lowest-conflict : tie.Need-slice-aggregate-lowest-conflict
 slice-aggregate-lowest-conflict c = search needs
@@ -59,8 +59,8 @@ lowest-conflict-requires c κs =
 conflict-at-requires : tie.Need-conflict-at-requires
 conflict-at-requires c κs = search needs
 
-answered-requires-2 : tie.Need-answered-requires-2
-answered-requires-2 c κs =
+verdict-of-requires-2 : tie.Need-verdict-of-requires-2
+verdict-of-requires-2 c κs =
     let found = c .before .before .before in
     let read = found .before .before .before .before .before in
     let known = read .before .before .before .pre in
@@ -74,12 +74,12 @@ returns-2 c =
     let tested = found .before .before in
     let read = tested .before .before .before in
     let known = read .before .before .before .pre in
-    rw (c .answered2 .ensures)
+    rw (c .verdict-of2 .ensures)
     (answered-conflict known (start-is read) (found .lowest-conflict .ensures) (told .before .if2 .taken) (told .conflict-at .ensures)
     (test-is (tested .before) ∙ not-false _ (tested .if1 .left)))
 
-answered-requires-3 : tie.Need-answered-requires-3
-answered-requires-3 c κs = search needs
+verdict-of-requires-3 : tie.Need-verdict-of-requires-3
+verdict-of-requires-3 c κs = search needs
 
 returns-3 : tie.Need-returns-3
 returns-3 c =
@@ -87,7 +87,7 @@ returns-3 c =
     let tested = found .before .before in
     let read = tested .before .before .before in
     let known = read .before .before .before .pre in
-    rw (c .answered3 .ensures)
+    rw (c .verdict-of3 .ensures)
     (answered-passes known (start-is read) (found .lowest-conflict .ensures) (test-is (tested .before) ∙ not-false _ (tested .if1 .left))
     (c .before .if2 .left))
 
@@ -99,12 +99,12 @@ judge-known-spec =
     u16-at-requires
     facts-at-requires
     has-requires
-    answered-requires
+    verdict-of-requires
     returns
     slice-aggregate-lowest-conflict
     lowest-conflict-requires
     conflict-at-requires
-    answered-requires-2
+    verdict-of-requires-2
     returns-2
-    answered-requires-3
+    verdict-of-requires-3
     returns-3)

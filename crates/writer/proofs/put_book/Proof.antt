@@ -1,17 +1,27 @@
--- `plan::put_book` meets its contract. The loop's invariant: what is left to store makes up the book's settings and nodes. The measure is what is
+-- `writer::put_book` meets its contract. The loop's invariant: what is left to store makes up the book's settings and nodes. The measure is what is
 -- left of them.
 use Prim.Native.Nat.{_+_, _-_}
+use native.Mathlib.Omega.{arith}
 use borrow.Author.Needs.{needs}
-use lib.ListN.{length, getD}
+use lib.ListN.{getD}
+use Rattle.book.specs.Form.{settingsAt}
+use Rattle.plan.specs.Form.{planSettingsAt}
+use Rattle.writer.specs.Bytes.{bookBody}
 use Rattle.writer.proofs.Stored.{Stored, stored-none, stored-more, stored-copy}
 use Rattle.writer.proofs.put_book.Statement.{statement}
 use Rattle.writer.proofs.put_book.Tie as tie
 
 abbrev Inv-loop : tie.InvT-loop
-Inv-loop plan₀ book size i₀ plan i = Stored (λ j. getD book (14 + j) 0) plan₀ plan 20 (length book - 14) i
+Inv-loop plan₀ book count size i₀ plan i = Stored (λ j. getD book (settingsAt + j) 0) plan₀ plan planSettingsAt size i
 
 abbrev μ-loop : tie.MeasureT-loop
-μ-loop plan₀ book size i₀ plan i = size - i
+μ-loop plan₀ book count size i₀ plan i = size - i
+
+mul-size : tie.Need-mul-size Inv-loop μ-loop
+mul-size c = search needs
+
+add-size : tie.Need-add-size Inv-loop μ-loop
+add-size c = search needs
 
 sub-size : tie.Need-sub-size Inv-loop μ-loop
 sub-size c = search needs
@@ -44,7 +54,10 @@ same-length : tie.Need-same-length Inv-loop μ-loop
 same-length c = c .before .loop .inv .long
 
 returns : tie.Need-returns Inv-loop μ-loop
-returns c = stored-copy (c .before .before .args .book .now) 14 (c .before .loop .inv) (c .loop-test .left)
+unfolding bookBody
+returns c =
+    let entry = c .before .before in
+    stored-copy (entry .args .book .now) _ _ (c .before .loop .inv) (c .loop-test .left) (omega arith) (entry .pre .0)
 
 pub put-book-spec : {M : Type 1} → statement M
 put-book-spec =
@@ -52,6 +65,8 @@ put-book-spec =
     (tie.spec
     Inv-loop
     μ-loop
+    mul-size
+    add-size
     sub-size
     loop-holds
     add-plan

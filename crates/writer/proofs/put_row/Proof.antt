@@ -1,4 +1,4 @@
--- `plan::put_row` meets its contract. The loop's invariant: all cells but those of the kinds left are the row's, and `k` is the lowest kind left.
+-- `writer::put_row` meets its contract. The loop's invariant: all cells but those of the kinds left are the row's, and `k` is the lowest kind left.
 -- The measure is the set of the kinds left, as a number.
 use mathlib.Core.Path.{_≡_, _∙_}
 use native.Mathlib.Omega.{arith}

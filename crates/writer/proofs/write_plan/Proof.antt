@@ -1,26 +1,26 @@
--- `plan::write_plan` meets its contract: the parts stored one behind the other are the plan.
+-- `writer::write_plan` meets its contract: the parts stored one behind the other are the plan.
 use native.Mathlib.Omega.{arith}
 use borrow.Author.Needs.{needs}
-use Rattle.writer.proofs.Writing.{book-formed, few-kinds, small-size, rows-ready, plan-written}
+use Rattle.writer.proofs.Writing.{few-kinds, small-size, body-within, rows-within, rows-ready, plan-written}
 use Rattle.writer.proofs.write_plan.Statement.{statement}
 use Rattle.writer.proofs.write_plan.Tie as tie
 
-put-contents-requires : tie.Need-put-contents-requires
-put-contents-requires c κs =
+put-plan-contents-requires : tie.Need-put-plan-contents-requires
+put-plan-contents-requires c κs =
     let ready = c .before .before .before .before .pre .0 in
     omega (arith, ready .plan-long, small-size ready, few-kinds ready)
 
 put-book-requires : tie.Need-put-book-requires
 put-book-requires c κs =
     let ready = c .before .before .before .before .before .before .before .before .pre .0 in
-    omega (arith, book-formed ready .size .is, ready .count-is, ready .plan-long)
+    (body-within ready, omega (arith, rows-within ready))
 
 write-rows-requires : tie.Need-write-rows-requires
 write-rows-requires c κs =
     let filled = c .before .before .before in
     let begun = filled .before .before .before .before in
     let entry = begun .before .before .before .before .before in
-    rows-ready (entry .pre .0) (entry .pre .1) (begun .put-contents .ensures) (filled .put-book .ensures)
+    rows-ready (entry .pre .0) (entry .pre .1) (begun .put-plan-contents .ensures) (filled .put-book .ensures)
 
 same-length : tie.Need-same-length
 same-length c = search needs
@@ -31,7 +31,7 @@ returns c =
     let filled = written .before .before .before .before in
     let begun = filled .before .before .before .before in
     let entry = begun .before .before .before .before .before in
-    plan-written (entry .pre .0) _ (entry .pre .1) (begun .put-contents .ensures) (filled .put-book .ensures) (written .write-rows .ensures)
+    plan-written (entry .pre .0) _ (entry .pre .1) (begun .put-plan-contents .ensures) (filled .put-book .ensures) (written .write-rows .ensures)
 
 pub write-plan-spec : {M : Type 1} → statement M
-write-plan-spec = tie.close (tie.spec put-contents-requires put-book-requires write-rows-requires same-length returns)
+write-plan-spec = tie.close (tie.spec put-plan-contents-requires put-book-requires write-rows-requires same-length returns)

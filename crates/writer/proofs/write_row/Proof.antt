@@ -1,4 +1,4 @@
--- `plan::write_row` meets its contract: the row by the table's sets is the row of the table's marks.
+-- `writer::write_row` meets its contract: the row by the table's sets is the row of the table's marks.
 use mathlib.Core.Path.{ap, _∙_}
 use Prim.Native.Nat.{_<_}
 use native.Mathlib.Omega.{arith}

@@ -1,4 +1,4 @@
--- `plan::write_rows` meets its contract. The loop's invariant: the rows left to store make up all rows, and `at` is where the next begins, with
+-- `writer::write_rows` meets its contract. The loop's invariant: the rows left to store make up all rows, and `at` is where the next begins, with
 -- zeros from there on. The measure is what is left of the count.
 use mathlib.Core.Path.{_≡_, ap, _∙_}
 use Prim.Native.Nat.{_-_}
