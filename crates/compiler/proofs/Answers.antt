@@ -31,7 +31,8 @@ pub answered-refused : {bytes plan : List ℕ} {room : ℕ} {v : Verdict} {a : C
     → (a ≡ answer (v .number) (v .place) (v .kind) 0) × (plan ≡ zeros room) → Compiles bytes room a plan
 answered-refused judges bad (a-is, clear) = rw (a-is, clear) (refused judges bad)
 
-module _ {bytes table : List ℕ} (known : Known bytes (bookOf bytes .count) table) {count kinds : ℕ} (count-is : count ≡ countOf (length bytes))
+module _ {bytes table : List ℕ} (known : Known bytes (bookOf bytes .count) table) {count kinds : ℕ}
+    (count-is : count ≡ countOf (length bytes))
     (kinds-is : kinds ≡ u16At bytes settingsAt) where
   -- the book's nodes and kinds are few
   pub limits : (count ≤ 512) × (kinds ≤ 64)
@@ -39,7 +40,8 @@ module _ {bytes table : List ℕ} (known : Known bytes (bookOf bytes .count) tab
       let wf = book-well-formed (known .good) in
       (omega (arith, wf .few-nodes, count-is ∙ book-count bytes), omega (arith, wf .few-kinds, kinds-is ∙ book-kinds bytes))
 
-module _ {bytes table : List ℕ} (known : Known bytes (bookOf bytes .count) table) (judges : Judges bytes (judgement DONE 0 0)) {count kinds size : ℕ}
+module _ {bytes table : List ℕ} (known : Known bytes (bookOf bytes .count) table) (judges : Judges bytes (judgement DONE 0 0))
+    {count kinds size : ℕ}
     (count-is : count ≡ countOf (length bytes)) (kinds-is : kinds ≡ u16At bytes settingsAt) (size-is : size ≡ planSize count kinds) where
   size-own : size ≡ sizeOf (bookOf bytes)
   size-own = size-is ∙ ap₂ planSize (count-is ∙ book-count bytes) (kinds-is ∙ book-kinds bytes)

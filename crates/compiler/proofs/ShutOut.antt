@@ -54,7 +54,8 @@ module _
     (meets : (bytes : List ℕ) (room : ℕ) → Compiles bytes room (answers bytes room) (plans bytes room)) where
   -- a book of one node that is empty passes
   empty-passes : answers (lone 1) (sizeOf (bookOf (lone 1))) .number ≡ DONE
-  empty-passes = passes-exactly {room = sizeOf (bookOf (lone 1))} (meets _ _) empty-formed (omega arith) .1 (empty-fruitful, empty-no-conflict)
+  empty-passes =
+      passes-exactly {room = sizeOf (bookOf (lone 1))} (meets _ _) empty-formed (omega arith) .1 (empty-fruitful, empty-no-conflict)
 
   -- a compiler does not refuse every well-formed book with room enough
   pub not-all-refused :

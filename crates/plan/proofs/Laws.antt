@@ -27,7 +27,8 @@ use Rattle.plan.proofs.Searches.{first-all}
 
 -- the size of a plan of good count and kinds
 pub size-small : (count kinds : ℕ) → count ≤ 512 → kinds ≤ 64 → planSize count kinds ≤ 36376
-size-small count kinds few-nodes few-kinds = omega (arith, mul-le-mul {n₁ = count} {m₁ = kinds + 1} {n₂ = 512} {m₂ = 65} few-nodes (omega arith))
+size-small count kinds few-nodes few-kinds =
+    omega (arith, mul-le-mul {n₁ = count} {m₁ = kinds + 1} {n₂ = 512} {m₂ = 65} few-nodes (omega arith))
 
 -- what a good length says
 pub record Sized (size count kinds : ℕ) : Type 0 where
@@ -53,19 +54,24 @@ pub record Formed (bytes : List ℕ) : Type 0 where
 pub formed : (bytes : List ℕ) → planGood bytes (planCount bytes) (planKinds bytes) ≡ true → Formed bytes
 unfolding planGood planKinds planStart
 formed bytes good =
-    let (long, rest) = both (sizeGood (length bytes) (planCount bytes) (planKinds bytes)) _ good in
-    let (front, all) = both (contentsAre bytes (planSections (planCount bytes) (planKinds bytes)) && settingsGood bytes planSettingsAt (planCount bytes)) _ rest in
-    let (contents, settings) = both (contentsAre bytes (planSections (planCount bytes) (planKinds bytes))) _ front in
-    let (ends, below) = both (leb 1 (planKinds bytes) && leb (planKinds bytes) 64) _ settings in
-    let (least, most) = both (leb 1 (planKinds bytes)) _ ends in
-    let size = sized (length bytes) (planCount bytes) (planKinds bytes) long in
+    let count = planCount bytes in
+    let kinds = planKinds bytes in
+    let contents? = contentsAre bytes (planSections count kinds) in
+    let (long, rest) = both (sizeGood (length bytes) count kinds) _ good in
+    let (front, all) = both (contents? && settingsGood bytes planSettingsAt count) _ rest in
+    let (contents, settings) = both contents? _ front in
+    let (ends, below) = both (leb 1 kinds && leb kinds 64) _ settings in
+    let (least, most) = both (leb 1 kinds) _ ends in
+    let size = sized (length bytes) count kinds long in
     record {
       size = size;
       contents = contents;
       some-kind = leb-true _ _ least;
       few-kinds = leb-true _ _ most;
       start-below = ltb-true _ _ below;
-      good = good-nodes bytes planNodesAt _ _ (omega (arith, size .is)) (size .few-nodes) (leb-true _ _ most) (first-none _ _ (leb-true _ _ all));
+      good =
+          good-nodes bytes planNodesAt _ _ (omega (arith, size .is)) (size .few-nodes) (leb-true _ _ most)
+          (first-none _ _ (leb-true _ _ all));
     }
 
 -- a plan of good form has its size, a small number
@@ -189,7 +195,8 @@ module _ (bytes : List ℕ) (count kinds : ℕ) where
           let column = place % (kinds + 1) in
           let within : column < kinds + 1 = mod-lt place (omega arith) in
           subst (λ p. cellGood bytes count kinds p ≡ true) (div-add-mod' place (kinds + 1))
-          (place-test row column within ∙ tested row column (div-lt-iff-lt-mul {k = kinds + 1} {x = place} {y = count} (omega arith) .1 below) within)
+          (place-test row column within
+          ∙ tested row column (div-lt-iff-lt-mul {k = kinds + 1} {x = place} {y = count} (omega arith) .1 below) within)
 
 -- what a plan that is judged done has shown
 pub done : (bytes : List ℕ) → planJudged bytes .number ≡ DONE → Done bytes
@@ -201,7 +208,11 @@ done bytes is =
     }
   where
     form : planGood bytes (planCount bytes) (planKinds bytes) ≡ true
-    form = holds _ (λ bad. let z : _≡_ {A = ℕ} PLAN-FORM DONE = sym (ap (λ (j : Judged). j .number) (judged-form bytes bad)) ∙ is in omega arith)
+    form =
+        holds _
+        (λ bad.
+        let refused : _≡_ {A = ℕ} PLAN-FORM DONE = sym (ap (λ (j : Judged). j .number) (judged-form bytes bad)) ∙ is in
+        omega arith)
 
     cells : CellsGood bytes (planCount bytes) (planKinds bytes)
     cells = cells-good bytes _ _ (sym (ap (λ (j : Judged). j .number) (judged-cells bytes form)) ∙ is)

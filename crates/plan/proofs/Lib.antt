@@ -1,6 +1,6 @@
 pub mod Children
 pub mod Columns
-mod Joined
+mod TestsJoined
 pub mod Laws
 pub mod Rows
 pub mod Runnable

@@ -57,6 +57,9 @@ module _ (count kinds : ℕ) where
     pub rows-none : RowsSearched (rowsAt count) 0
     rows-none = record { passed = λ place below. absurd (omega (arith, zero-mul (kinds + 1))); at-is = first-row }
 
+    pub row-inside : {at n : ℕ} → RowsSearched at n → n < count → at + (kinds + 1) ≤ planSize count kinds
+    row-inside s below = rw (s .at-is) (row-within below)
+
     module _ {at n one other : ℕ} (s : RowsSearched at n) (below : n < count) (cells : CellsOf n one other) where
       -- a row's columns are tested as its cells
       column-is : (column : ℕ) → column < kinds + 1 → good (n * (kinds + 1) + column) ≡ columnGood bytes at kinds one other column
@@ -95,7 +98,8 @@ module _ (count kinds : ℕ) where
       pub rows-bad : {test : Bool} {column : ℕ} → test ≡ ltb kinds (badColumn bytes at kinds one other) → test ≡ false
           → column ≡ badColumn bytes at kinds one other → judged CELL (at - rowsAt count + column) ≡ cellsJudged bytes count kinds
       unfolding badColumn cellsJudged
-      rows-bad {column = column} test-is some-bad is = rw (first-is good (count * (kinds + 1)) it within, lt-ltb _ _ within) (ap (judged CELL) place-is)
+      rows-bad {column = column} test-is some-bad is =
+          rw (first-is good (count * (kinds + 1)) it within, lt-ltb _ _ within) (ap (judged CELL) place-is)
         where
           most : column ≤ kinds
           most = rw is (ltb-false kinds _ (sym test-is ∙ some-bad))

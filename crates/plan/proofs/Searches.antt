@@ -18,7 +18,9 @@ module _ (good : ℕ → Bool) where
   -- a search finds such a number
   pub found : (count : ℕ) → Found count (firstBad good count 0)
   unfolding firstBad
-  found count = let all : 0 + count ≡ count = omega arith in subst (λ m. Found m (firstBad good count 0)) all (go count 0 (λ n below. absurd (omega arith)))
+  found count =
+      let all : 0 + count ≡ count = omega arith in
+      subst (λ m. Found m (firstBad good count 0)) all (go count 0 (λ n below. absurd (omega arith)))
     where
       go : (left n : ℕ) → ((m : ℕ) → m < n → good m ≡ true) → Found (n + left) (firstBad good left n)
       go zero n passed = record { before = passed; here = λ below. absurd (omega arith) }

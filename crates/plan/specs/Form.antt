@@ -6,7 +6,7 @@ use mathlib.Core.List.{List, [], _∷_}
 use lib.Dec.{ltb, leb, eqb}
 use lib.ListN.{length, getD}
 use Rattle.words.specs.Words.{u16At}
-use Rattle.forms.specs.Forms.{sectionAt, formSize, contentsAre}
+use Rattle.forms.specs.Forms.{contentsSize, sectionAt, formSize, contentsAre}
 use Rattle.book.specs.Book.{leftOf, rightOf}
 use Rattle.book.specs.Decode.{nodeAt, nodes, nodeGood, firstBad}
 use Rattle.book.specs.Form.{DONE, judged, settingsGood}
@@ -43,9 +43,9 @@ rowAt count kinds n = rowsAt count + n * (kinds + 1)
 abbrev pub planSize : ℕ → ℕ → ℕ
 planSize count kinds = formSize (planSections count kinds)
 
--- a plan's nodes, by the length of section 2, and its kinds and start, by its settings
+-- a plan's nodes, by the length of section 2 in its contents, and its kinds and start, by its settings
 unfoldable pub planCount : List ℕ → ℕ
-planCount bytes = u16At bytes 12 / 6
+planCount bytes = u16At bytes (contentsSize 1 + 4) / 6
 
 unfoldable pub planKinds : List ℕ → ℕ
 planKinds bytes = u16At bytes planSettingsAt
@@ -96,11 +96,13 @@ hasCell (Tagged l t) cell = eqb cell 0 || eqb cell 2
 hasCell (Ref l) cell = eqb cell 0 || eqb cell 2
 
 module _ (bytes : List ℕ) (count kinds : ℕ) where
-  -- whether the cell at a place, row times (K + 1) plus column, is one that its node's type has, or a last cell of 0 or 1
+  -- whether the cell at a place, row times (K + 1) plus column, is one that its node's type has, or a last cell up to 1
   unfoldable pub cellGood : ℕ → Bool
   cellGood place =
+      let row = place / (kinds + 1) in
+      let column = place % (kinds + 1) in
       let cell = getD bytes (rowsAt count + place) 0 in
-      cond (ltb (place % (kinds + 1)) kinds) (hasCell (nodeAt bytes planNodesAt (place / (kinds + 1))) cell) (leb cell 1)
+      cond (ltb column kinds) (hasCell (nodeAt bytes planNodesAt row) cell) (leb cell 1)
 
   -- the cells' answer: done, or the first bad cell
   unfoldable pub cellsJudged : Judged

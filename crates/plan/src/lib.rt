@@ -19,9 +19,9 @@ use words::wide;
 // Where the length of a plan's nodes stands, and where its settings and nodes begin.
 const NODES_LENGTH_AT: usize = 12;
 
-pub const SETTINGS_AT: usize = 20;
+pub const PLAN_SETTINGS_AT: usize = 20;
 
-pub const NODES_AT: usize = 24;
+pub const PLAN_NODES_AT: usize = 24;
 
 // The answers' numbers.
 pub const PLAN_FORM: u32 = 8;
@@ -41,7 +41,7 @@ pub fn plan_kinds(plan: &[u8]) -> usize
     requires { ⌜ planNodesAt ≤ length (now plan) ⌝ }
     ensures { λ r. ⌜ (r ≡ planKinds (now (plan .entry))) × (r < 65536) ⌝ }
 {
-    u16_at(plan, SETTINGS_AT)
+    u16_at(plan, PLAN_SETTINGS_AT)
 }
 
 // A plan's start, by its settings.
@@ -49,7 +49,7 @@ pub fn plan_start(plan: &[u8]) -> usize
     requires { ⌜ planNodesAt ≤ length (now plan) ⌝ }
     ensures { λ r. ⌜ (r ≡ planStart (now (plan .entry))) × (r < 65536) ⌝ }
 {
-    u16_at(plan, SETTINGS_AT + 2)
+    u16_at(plan, PLAN_SETTINGS_AT + 2)
 }
 
 // The cell of a node's row in a column.
@@ -57,7 +57,7 @@ pub fn cell_at(plan: &[u8], count: usize, kinds: usize, node: usize, column: usi
     requires { ⌜ (Runnable (now plan) count kinds) × (node < count) × (column ≤ kinds) ⌝ }
     ensures { λ r. ⌜ (r ≡ cellAt (now (plan .entry)) count kinds node column) × (r < 256) ⌝ }
 {
-    wide(plan[NODES_AT + 6 * count + node * (kinds + 1) + column])
+    wide(plan[PLAN_NODES_AT + 6 * count + node * (kinds + 1) + column])
 }
 
 // The left of a node whose row has a cell of 2 or more.
@@ -65,7 +65,7 @@ pub fn left_at(plan: &[u8], node: usize) -> usize
     requires { ⌜ (planJudged (now plan) .number ≡ 0) × (node < planCount (now plan)) × (RowHas (now plan) node 2) ⌝ }
     ensures { λ r. ⌜ r ≡ planOf (now (plan .entry)) .left node ⌝ }
 {
-    u16_at(plan, NODES_AT + 6 * node + 2)
+    u16_at(plan, PLAN_NODES_AT + 6 * node + 2)
 }
 
 // The right of a node whose row has a cell of 3 or more.
@@ -73,7 +73,7 @@ pub fn right_at(plan: &[u8], node: usize) -> usize
     requires { ⌜ (planJudged (now plan) .number ≡ 0) × (node < planCount (now plan)) × (RowHas (now plan) node 3) ⌝ }
     ensures { λ r. ⌜ r ≡ planOf (now (plan .entry)) .right node ⌝ }
 {
-    u16_at(plan, NODES_AT + 6 * node + 4)
+    u16_at(plan, PLAN_NODES_AT + 6 * node + 4)
 }
 
 // The lower cell for kinds that a node's type has beside 0; 0 where it has none.
@@ -106,7 +106,7 @@ fn other_cell(node: Node) -> u8
     }
 }
 
-// The first column of a row with a bad cell, for the two cells that its node's type has; K + 1 where there is none.
+// The first column of a row with a bad cell, for the cells that its node's type has beside 0; K + 1 if there is none.
 fn bad_column(plan: &[u8], at: usize, kinds: usize, one: u8, other: u8) -> usize
     requires { ⌜ at + (kinds + 1) ≤ length (now plan) ⌝ }
     ensures { λ r. ⌜ r ≡ badColumn (now (plan .entry)) at kinds one other ⌝ }
@@ -145,11 +145,11 @@ fn judge_cells(plan: &[u8], count: usize, kinds: usize) -> Judged
     requires { ⌜ (planSize count kinds ≤ length (now plan)) × (planSize count kinds < 65536) ⌝ }
     ensures { λ r. ⌜ r ≡ cellsJudged (now (plan .entry)) count kinds ⌝ }
 {
-    let rows = NODES_AT + 6 * count;
+    let rows = PLAN_NODES_AT + 6 * count;
     let mut at = rows;
     let mut n = 0;
     while n < count {
-        let node = node_at(plan, NODES_AT, n);
+        let node = node_at(plan, PLAN_NODES_AT, n);
         let one = one_cell(node);
         let other = other_cell(node);
         if !row_good(plan, at, kinds, one, other) {
@@ -173,7 +173,7 @@ fn size_good(size: usize, count: usize, kinds: usize) -> bool
     requires { ⌜ (count < 65536) × (kinds < 65536) ⌝ }
     ensures { λ r. ⌜ r ≡ sizeGood size count kinds ⌝ }
 {
-    (size == NODES_AT + 6 * count + count * (kinds + 1)) & (1 <= count) & (count <= 512)
+    (size == PLAN_NODES_AT + 6 * count + count * (kinds + 1)) & (1 <= count) & (count <= 512)
 }
 
 // Whether a plan's contents are those fixed by its nodes and kinds.
@@ -194,15 +194,15 @@ fn plan_good(plan: &[u8], count: usize, kinds: usize) -> bool
         return false;
     }
     plan_contents_good(plan, count, kinds)
-        & settings_good(plan, SETTINGS_AT, count)
-        & (count <= first_bad(plan, NODES_AT, kinds, count))
+        & settings_good(plan, PLAN_SETTINGS_AT, count)
+        & (count <= first_bad(plan, PLAN_NODES_AT, kinds, count))
 }
 
 // A plan's form, for any bytes: done, or the first of 8 and 9 that holds against it, with its place.
 pub fn judge(plan: &[u8]) -> Judged
     ensures { λ r. ⌜ r ≡ planJudged (now (plan .entry)) ⌝ }
 {
-    if plan.len() < NODES_AT {
+    if plan.len() < PLAN_NODES_AT {
         return Judged {
             number: PLAN_FORM,
             place: 0,
@@ -224,5 +224,5 @@ pub fn plan_size(count: usize, kinds: usize) -> usize
     requires { ⌜ (count ≤ 512) × (kinds ≤ 64) ⌝ }
     ensures { λ r. ⌜ (r ≡ planSize count kinds) × (r < 65536) ⌝ }
 {
-    NODES_AT + 6 * count + count * (kinds + 1)
+    PLAN_NODES_AT + 6 * count + count * (kinds + 1)
 }

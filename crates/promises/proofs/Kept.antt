@@ -11,8 +11,7 @@ use Rattle.book.specs.declared.Node.{Node}
 use Rattle.book.specs.Form.{DONE, judged, formOf, bookOf}
 use Rattle.book.proofs.Laws.{form-listed}
 use Rattle.book.proofs.Decoded.{formed, well-formed}
-use Rattle.book.proofs.Encoded as encoded
-use Rattle.book.proofs.Encoded.{good-form-bytes}
+use Rattle.book.proofs.Encoded.{good-form-bytes, well-formed-has-bytes as encoded}
 use Rattle.grammar.specs.Rules.{Nullable, First, Snf, Reach}
 use Rattle.grammar.specs.Passing.{Fruitful, Passes}
 use Rattle.grammar.specs.Derivations.{Derives, Lawful, Extends}
@@ -52,7 +51,7 @@ pub formed-has-its-bytes : (bytes : List ℕ) → Below 256 bytes → formOf byt
 formed-has-its-bytes bytes small form = good-form-bytes bytes small form
 
 pub well-formed-has-bytes : (b : Book) → WellFormed b → (formOf (bookBytes b) ≡ judged DONE 0) × (bookOf (bookBytes b) ≡ b)
-well-formed-has-bytes b formed = encoded.well-formed-has-bytes b formed
+well-formed-has-bytes b formed = encoded b formed
 
 -- Demand 1: every compiling call has an answer, and one only
 pub compiling-answers : (bytes : List ℕ) (room : ℕ) → (a : Compiled) × (plan : List ℕ) × Compiles bytes room a plan

@@ -74,7 +74,8 @@ module _ (answers : (plan run held tree : List ℕ) → Reading) (slots trees : 
       let lengths : readOf plan run (length (zeros 23)) (length (zeros 49)) ≡ readOf plan run 23 49 =
       rw (length-replicate {A = ℕ} 23 0, length-replicate {A = ℕ} 49 0) in
       let number : readOf plan run 2 8 .reading .number ≡ r .number = ap (λ (o : Outcome). o .reading .number) is in
-      let slots-same : readOf plan run 2 8 ≡ readOf plan run 23 8 = slots-more plan run 2 8 23 (omega arith) (λ e. not-deep (sym number ∙ e)) in
+      let slots-same : readOf plan run 2 8 ≡ readOf plan run 23 8 =
+      slots-more plan run 2 8 23 (omega arith) (λ e. not-deep (sym number ∙ e)) in
       meets plan run (zeros 23) (zeros 49) .outcome-is
       ∙ lengths
       ∙ room-more 8 49 (omega arith) plan run 23
@@ -129,12 +130,13 @@ module _ (answers : (plan run held tree : List ℕ) → Reading) (slots trees : 
 
   pub not-nodding-trees : ((bytes : List ℕ) (room : ℕ) (a : Compiled) (plan : List ℕ) → Compiles bytes room a plan → a .number ≡ DONE
       → (k : ℕ) (run other held tree : List ℕ) → Enough bytes (k ∷ run) held tree → Enough bytes (k ∷ other) held tree
-      → answers (take (a .size) plan) (k ∷ run) held tree .number ≡ DONE → answers (take (a .size) plan) (k ∷ other) held tree .number ≡ DONE
+      → answers (take (a .size) plan) (k ∷ run) held tree .number ≡ DONE
+      → answers (take (a .size) plan) (k ∷ other) held tree .number ≡ DONE
       → trees (take (a .size) plan) (k ∷ run) held tree ≡ trees (take (a .size) plan) (k ∷ other) held tree)
       → ⊥
   unfolding given written
   not-nodding-trees nods =
       let number : (o : Outcome) → ℕ = λ (o : Outcome). o .reading .number in
       trees-part
-      (nods _ _ _ _ (parting .compiled) refl 0 (1 ∷ 2 ∷ []) (2 ∷ []) (zeros 23) (zeros 49) (enough (0 ∷ 1 ∷ 2 ∷ []) (omega arith)) (enough (0 ∷ 2 ∷ []) (omega arith))
-      (ap number rinses-is) (ap number tips-is))
+      (nods _ _ _ _ (parting .compiled) refl 0 (1 ∷ 2 ∷ []) (2 ∷ []) (zeros 23) (zeros 49) (enough (0 ∷ 1 ∷ 2 ∷ []) (omega arith))
+      (enough (0 ∷ 2 ∷ []) (omega arith)) (ap number rinses-is) (ap number tips-is))

@@ -7,7 +7,8 @@ use mathlib.Core.Logic.{_⊎_, inl, inr, ⊎-elim}
 use Rattle.book.specs.declared.Node.{Node}
 use Rattle.book.specs.declared.Node.the-variants.{Fail}
 use Rattle.book.specs.Book.{Book, WellFormed, Proper}
-use Rattle.grammar.specs.Rules.{First, Child, either-left, either-right, then-left, then-right, tagged-left, ref-left, Reach, r-start, r-child}
+use Rattle.grammar.specs.Rules.{First, Child, either-left, either-right, then-left, then-right, tagged-left, ref-left, Reach}
+use Rattle.grammar.specs.Rules.{r-start, r-child}
 use Rattle.rules.specs.Step.{leftFrom, rightFrom}
 use Rattle.rules.proofs.Reading.{left-below, right-below}
 use Rattle.rules.proofs.Laws.{first-below}

@@ -11,8 +11,9 @@ use Rattle.book.specs.declared.Node.{Node}
 use Rattle.book.specs.declared.Node.the-variants.{Fail, Empty, Token, Either, Then, Tagged, Ref}
 use Rattle.rules.specs.declared.NodeFacts.{NodeFacts}
 use Rattle.rules.specs.Facts.{factsAt, Facts}
-use Rattle.rules.specs.Growth.{Sound, Visited, Turned}
-use Rattle.rules.specs.Step.{leftFrom, eitherFacts, thenFacts, ruledOf, isRef, FactAt, Given, Holds, SameBelow, PutAt, RuleClosed, RefClosed, Climbed}
+use Rattle.rules.specs.Growth.{masks, Sound, Visited, Turned}
+use Rattle.rules.specs.Step.{leftFrom, eitherFacts, thenFacts, ruledOf, isRef, FactAt, Given, Holds, SameBelow, PutAt}
+use Rattle.rules.specs.Step.{RuleClosed, RefClosed, Climbed}
 use Rattle.rules.proofs.Growing.{grown-none, grown-then}
 use Rattle.rules.proofs.Steps.{rules-put}
 use Rattle.rules.proofs.Complete.{facts-are}
@@ -30,7 +31,8 @@ module _ {before after : List ℕ} {n : ℕ} (lower : SameBelow n before after) 
       ) refl
 
   -- the rules give the same to a node that is not a ref
-  ruled-same : {kinds count : ℕ} {at : Node} → Proper kinds count n at → isRef at ≡ false → ruledOf at (factsAt after) ≡ ruledOf at (factsAt before)
+  ruled-same : {kinds count : ℕ} {at : Node} → Proper kinds count n at → isRef at ≡ false
+      → ruledOf at (factsAt after) ≡ ruledOf at (factsAt before)
   unfolding ruledOf
   ruled-same fail-is other = refl
   ruled-same empty-is other = refl
@@ -83,9 +85,9 @@ ref-ruled n (Ref l) facts is = refl
 
 module _ {node : ℕ → Node} where
   -- the facts of its left put at a ref are a visit of it
-  pub ref-visited : {n l : ℕ} {at : Node} {facts : NodeFacts} {before after : List ℕ} {changed : Bool} → Sound (FactAt node) before
+  pub ref-visited : {n l : ℕ} {at : Node} {facts : NodeFacts} {before after : List ℕ} {changed : Bool} → Sound masks (FactAt node) before
       → at ≡ node n → isRef at ≡ true → l ≡ leftFrom n at → facts ≡ factsAt before l → PutAt (Given n facts) facts n before after changed
-      → Visited (FactAt node) (RefClosed node) n before after changed
+      → Visited masks (FactAt node) (RefClosed node) n before after changed
   ref-visited {n} {l} {at} {facts} {before} {after} {changed} sound is ref l-is facts-are put = record {
     grown = ruled-put .grown;
     closed = λ unchanged. record {
@@ -97,7 +99,7 @@ module _ {node : ℕ → Node} where
       ruled-put = rules-put sound is (facts-are ∙ ap (factsAt before) l-is ∙ sym (ref-ruled n at (factsAt before) ref)) put
 
   -- a node that is not a ref is passed over
-  pub other-visited : {n : ℕ} {table : List ℕ} → isRef (node n) ≡ false → Visited (FactAt node) (RefClosed node) n table table false
+  pub other-visited : {n : ℕ} {table : List ℕ} → isRef (node n) ≡ false → Visited masks (FactAt node) (RefClosed node) n table table false
   other-visited {n} {table} other = record {
     grown = grown-none table;
     closed = λ unchanged. record { closed = λ is. absurd (true≢false (sym is ∙ other)) };
@@ -105,8 +107,8 @@ module _ {node : ℕ → Node} where
 
   -- a sound table that has what the rules give all nodes but refs, and in which visits of refs changed nothing, has the facts
   pub refs-facts : {kinds count : ℕ} {before after : List ℕ} {changed : Bool} → ((n : ℕ) → n < count → Proper kinds count n (node n))
-      → Sound (FactAt node) before → ((n : ℕ) → n < count → isRef (node n) ≡ false → RuleClosed node before n)
-      → Turned (FactAt node) (RefClosed node) count before after changed → changed ≡ false → Facts node count after
+      → Sound masks (FactAt node) before → ((n : ℕ) → n < count → isRef (node n) ≡ false → RuleClosed node before n)
+      → Turned masks (FactAt node) (RefClosed node) count before after changed → changed ≡ false → Facts node count after
   refs-facts {count = count} {before = before} proper sound others refs unchanged =
       rw (refs .grown .still unchanged) (facts-are proper (λ n below. closed n below (isRef (node n)) refl) sound)
     where

@@ -10,9 +10,12 @@ use Rattle.kinds.specs.Kinds.{Has, joined, inBoth}
 use Rattle.kinds.proofs.Laws.{all, has-single, has-join, has-shared}
 use Rattle.book.specs.Book.{Proper}
 use Rattle.book.specs.declared.Node.{Node}
-use Rattle.grammar.specs.Rules.{Productive, Nullable, First, Snf, p-empty, p-token, p-left, p-right, p-then, p-tagged, p-ref, n-empty, n-left, n-right, n-then, n-tagged, n-ref, f-token, f-left, f-right, f-hold, f-skip, f-tagged, f-ref, s-left, s-right, s-first-left, s-first-right, s-then-left, s-then-right, s-tagged, s-ref}
+use Rattle.grammar.specs.Rules.{Productive, Nullable, First, Snf, p-empty, p-token, p-left, p-right, p-then, p-tagged, p-ref}
+use Rattle.grammar.specs.Rules.{n-empty, n-left, n-right, n-then, n-tagged, n-ref, f-token, f-left, f-right, f-hold, f-skip}
+use Rattle.grammar.specs.Rules.{f-tagged, f-ref, s-left, s-right, s-first-left, s-first-right, s-then-left, s-then-right}
+use Rattle.grammar.specs.Rules.{s-tagged, s-ref}
 use Rattle.rules.specs.Facts.{factsAt, Facts}
-use Rattle.rules.specs.Growth.{Sound}
+use Rattle.rules.specs.Growth.{masks, Sound}
 use Rattle.rules.specs.Step.{leftFrom, rightFrom, ruledOf, FactAt, Holds, RuleClosed}
 use Rattle.rules.proofs.Reading.{left-below, right-below}
 use Rattle.rules.proofs.Steps.{table-sound}
@@ -115,7 +118,7 @@ module _ {node : ℕ → Node} {kinds count : ℕ} (proper : (n : ℕ) → n < c
   has-snf {k = k} small known (s-ref d) = give-snf known k (has-snf small (left known) d)
 
   -- a sound table that is closed under the rules has the facts
-  pub facts-are : Sound (FactAt node) table → Facts node count table
+  pub facts-are : Sound masks (FactAt node) table → Facts node count table
   facts-are sound = record {
     productive-is = λ n k below small. (table-sound n sound .sound 0 k, has-productive k small (here n below));
     nullable-is = λ n k below small. (table-sound n sound .sound 1 k, has-nullable k small (here n below));

@@ -9,7 +9,8 @@ use Rattle.kinds.proofs.Laws.{has-below}
 use Rattle.book.specs.Book.{Proper, token-is}
 use Rattle.book.specs.declared.Node.{Node}
 use Rattle.book.specs.declared.Node.the-variants.{Token}
-use Rattle.grammar.specs.Rules.{First, Snf, f-token, f-left, f-right, f-hold, f-skip, f-tagged, f-ref, s-left, s-right, s-first-left, s-first-right, s-then-left, s-then-right, s-tagged, s-ref}
+use Rattle.grammar.specs.Rules.{First, Snf, f-token, f-left, f-right, f-hold, f-skip, f-tagged, f-ref, s-left, s-right}
+use Rattle.grammar.specs.Rules.{s-first-left, s-first-right, s-then-left, s-then-right, s-tagged, s-ref}
 use Rattle.rules.specs.Facts.{factsAt, Facts}
 use Rattle.rules.specs.Step.{leftFrom, rightFrom}
 use Rattle.rules.proofs.Reading.{left-below, right-below}

@@ -14,7 +14,7 @@ use Rattle.book.specs.declared.Node.{Node}
 use Rattle.book.specs.declared.Node.the-variants.{Fail, Empty, Token, Either, Then, Tagged, Ref}
 use Rattle.grammar.specs.Rules.{Child, either-left, either-right, then-left, then-right, tagged-left, ref-left, Reach, r-start, r-child}
 use Rattle.rules.specs.Facts.{marksSize, marked?, IsMarked, Reached}
-use Rattle.rules.specs.Growth.{Sound, Blank, Joined, Grown, Turned}
+use Rattle.rules.specs.Growth.{masks, Sound, Blank, Joined, Grown, Turned}
 use Rattle.rules.specs.Step.{leftFrom, rightFrom, ReachAt, ChildClosed, Spread}
 use Rattle.rules.proofs.Growing.{or-false, grown-none, grown-then, grown-sound, blank-sound, joined-grown, joined-has, joined-held}
 use Rattle.rules.proofs.Reading.{node-is, left-inside, right-inside}
@@ -29,7 +29,7 @@ marked-is marks n = ((λ e. record { mark = has?-is _ _ .0 e }), (λ marked. has
 module _ {before after : List ℕ} {n : ℕ} {changed : Bool} (inside : n / 64 < length before)
     (joined : Joined before after (n / 64) (onlyKind (n % 64)) changed) where
   -- a mark set on a reachable node is growth by reaching
-  pub mark-grown : {node : ℕ → Node} {start : ℕ} → Reach node start n → Grown (ReachAt node start) before after changed
+  pub mark-grown : {node : ℕ → Node} {start : ℕ} → Reach node start n → Grown masks (ReachAt node start) before after changed
   mark-grown {node} {start} reach = joined-grown inside joined by
     where
       by : (k : ℕ) → Has (onlyKind (n % 64)) k → ReachAt node start (n / 64) k
@@ -51,13 +51,13 @@ module _ {before after : List ℕ} {start : ℕ} {changed : Bool} (blank : Blank
   start-in : start / 64 < length before
   start-in = omega (arith, blank .long)
 
-  pub start-sound : {node : ℕ → Node} → Sound (ReachAt node start) after
+  pub start-sound : {node : ℕ → Node} → Sound masks (ReachAt node start) after
   start-sound = grown-sound (mark-grown start-in joined r-start) (blank-sound blank)
 
   pub start-marked : IsMarked after start
   start-marked = mark-set start-in joined
 
-marked-reach : {node : ℕ → Node} {start : ℕ} {marks : List ℕ} {n : ℕ} → Sound (ReachAt node start) marks → IsMarked marks n → Reach node start n
+marked-reach : {node : ℕ → Node} {start : ℕ} {marks : List ℕ} {n : ℕ} → Sound masks (ReachAt node start) marks → IsMarked marks n → Reach node start n
 marked-reach {node} {start} {marks} {n} sound marked =
     let whole : 64 * (n / 64) + n % 64 ≡ n = omega arith in
     rw whole at (sound .by (n / 64) (n % 64) (marked .mark) .reach)
@@ -98,14 +98,14 @@ module _ {bytes : List ℕ} {base count n l r : ℕ} {at : Node} {before between
   l-in : l / 64 < length before
   l-in = omega (arith, left-inside good below read, good .few-nodes)
 
-  module _ (start : ℕ) (sound : Sound (ReachAt (nodes bytes base count) start) before) where
-    first : Grown (ReachAt (nodes bytes base count) start) before between c
+  module _ (start : ℕ) (sound : Sound masks (ReachAt (nodes bytes base count) start) before) where
+    first : Grown masks (ReachAt (nodes bytes base count) start) before between c
     first = mark-grown l-in left (rw l-is (reach-left (marked-reach sound here) at is))
 
     r-in : r / 64 < length between
     r-in = omega (arith, right-inside good below read, good .few-nodes, first .long)
 
-    second : Grown (ReachAt (nodes bytes base count) start) between after d
+    second : Grown masks (ReachAt (nodes bytes base count) start) between after d
     second = mark-grown r-in right (rw r-is (reach-right (marked-reach sound here) at is))
 
     closed : (c || d) ≡ false → (m : ℕ) → Child (nodes bytes base count n) m → IsMarked before m
@@ -137,8 +137,8 @@ none-spread {node} {marks} unmarked = record {
 
 module _ {node : ℕ → Node} {kinds start count : ℕ} (proper : (n : ℕ) → n < count → Proper kinds count n (node n)) (start-below : start < count) where
   -- after a turn over sound marks that changed nothing, the reachable nodes are marked
-  pub turned-reached : {before after : List ℕ} {changed : Bool} → Sound (ReachAt node start) before → IsMarked before start
-      → Turned (ReachAt node start) (ChildClosed node) count before after changed → changed ≡ false → Reached node start count after
+  pub turned-reached : {before after : List ℕ} {changed : Bool} → Sound masks (ReachAt node start) before → IsMarked before start
+      → Turned masks (ReachAt node start) (ChildClosed node) count before after changed → changed ≡ false → Reached node start count after
   turned-reached {before} {after} sound started turned unchanged =
       rw (turned .grown .still unchanged) (record { reach-is = λ n below. (marked-reach sound, marked) })
     where

@@ -11,9 +11,11 @@ use Rattle.kinds.specs.Kinds.{Has}
 use Rattle.kinds.proofs.Laws.{none, has-single, has-join, has-shared}
 use Rattle.book.specs.declared.Node.{Node}
 use Rattle.book.specs.declared.Node.the-variants.{Fail, Empty, Token, Either, Then, Tagged, Ref}
-use Rattle.grammar.specs.Rules.{p-empty, p-token, p-left, p-right, p-then, p-tagged, p-ref, n-empty, n-left, n-right, n-then, n-tagged, n-ref, f-token, f-left, f-right, f-hold, f-skip, f-tagged, f-ref, s-left, s-right, s-first-left, s-first-right, s-then-left, s-then-right, s-tagged, s-ref}
+use Rattle.grammar.specs.Rules.{p-empty, p-token, p-left, p-right, p-then, p-tagged, p-ref, n-empty, n-left, n-right, n-then}
+use Rattle.grammar.specs.Rules.{n-tagged, n-ref, f-token, f-left, f-right, f-hold, f-skip, f-tagged, f-ref, s-left, s-right}
+use Rattle.grammar.specs.Rules.{s-first-left, s-first-right, s-then-left, s-then-right, s-tagged, s-ref}
 use Rattle.rules.specs.declared.NodeFacts.{NodeFacts}
-use Rattle.rules.specs.Growth.{Sound, Joined, Grown}
+use Rattle.rules.specs.Growth.{masks, Sound, Joined, Grown}
 use Rattle.rules.specs.Facts.{tableSize, factsAt}
 use Rattle.rules.specs.Step.{ruledOf, factOf, Fact, FactAt, Given, Holds, PutAt}
 use Rattle.rules.proofs.Growing.{grown-then, grown-by, joined-grown, joined-has, joined-other}
@@ -42,16 +44,16 @@ module _ {table one two three four : List ℕ} {n : ℕ} {facts : NodeFacts} {c 
       let place : (4 * n + j) % 4 ≡ j = omega arith in
       record { own = omega arith; given = rw place has }
 
-  grown-one : Grown (Given n facts) table one c
+  grown-one : Grown masks (Given n facts) table one c
   grown-one = joined-grown (omega arith) productive (λ k has. rw add-zero at (given 0 k (omega arith) has))
 
-  grown-two : Grown (Given n facts) one two d
+  grown-two : Grown masks (Given n facts) one two d
   grown-two = joined-grown (omega (arith, grown-one .long)) nullable (λ k. given 1 k (omega arith))
 
-  grown-three : Grown (Given n facts) two three e
+  grown-three : Grown masks (Given n facts) two three e
   grown-three = joined-grown (omega (arith, grown-one .long, grown-two .long)) first (λ k. given 2 k (omega arith))
 
-  grown-four : Grown (Given n facts) three four f
+  grown-four : Grown masks (Given n facts) three four f
   grown-four = joined-grown (omega (arith, grown-one .long, grown-two .long, grown-three .long)) snf (λ k. given 3 k (omega arith))
 
   -- four facts joined at a node are put there
@@ -80,7 +82,7 @@ pub record SoundFacts (node : ℕ → Node) (at : Node) (facts : NodeFacts) : Ty
 
 module _ {node : ℕ → Node} where
   -- a sound table has sound facts at every node
-  pub table-sound : {table : List ℕ} (n : ℕ) → Sound (FactAt node) table → SoundFacts node (node n) (factsAt table n)
+  pub table-sound : {table : List ℕ} (n : ℕ) → Sound masks (FactAt node) table → SoundFacts node (node n) (factsAt table n)
   table-sound {table} n sound = record { sound = each }
     where
       placed : (j k : ℕ) → j < 4 → Has (getD table (4 * n + j) 0) k → Fact node (node n) j k
@@ -146,7 +148,7 @@ module _ {node : ℕ → Node} where
       each (Ref l) (suc (suc zero)) k has = f-ref (by l .sound 2 k has)
       each (Ref l) (suc (suc (suc more))) k has = s-ref (by l .sound 3 k has)
 
-  module _ {table after : List ℕ} {n : ℕ} {at : Node} {facts : NodeFacts} {changed : Bool} (sound : Sound (FactAt node) table) (is : at ≡ node n)
+  module _ {table after : List ℕ} {n : ℕ} {at : Node} {facts : NodeFacts} {changed : Bool} (sound : Sound masks (FactAt node) table) (is : at ≡ node n)
       (ruled : facts ≡ ruledOf at (factsAt table)) (put : PutAt (Given n facts) facts n table after changed) where
     -- what the rules give a node that was read has been put into a sound table by the rules
     pub rules-put : PutAt (FactAt node) (ruledOf (node n) (factsAt table)) n table after changed

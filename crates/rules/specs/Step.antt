@@ -11,7 +11,7 @@ use Rattle.book.specs.declared.Node.{Node}
 use Rattle.book.specs.declared.Node.the-variants.{Fail, Empty, Token, Either, Then, Tagged, Ref}
 use Rattle.grammar.specs.Rules.{Productive, Nullable, First, Snf, Child, Reach}
 use Rattle.rules.specs.Facts.{factsAt, IsMarked}
-use Rattle.rules.specs.Growth.{Sound, Grown, Visited, Turned}
+use Rattle.rules.specs.Growth.{masks, Sound, Grown, Visited, Turned}
 use Rattle.rules.specs.declared.NodeFacts.{NodeFacts}
 
 -- the left of a node, its own number where it has none
@@ -50,7 +50,9 @@ eitherFacts left right = record {
   productive = joined (left .productive) (right .productive);
   nullable = joined (left .nullable) (right .nullable);
   first = joined (left .first) (right .first);
-  snf = joined (joined (joined (left .snf) (right .snf)) (inBoth (left .first) (right .nullable))) (inBoth (left .nullable) (right .first));
+  snf =
+      joined (joined (joined (left .snf) (right .snf)) (inBoth (left .first) (right .nullable)))
+      (inBoth (left .nullable) (right .first));
 }
 
 -- what the rules give a then by the facts of its left and right
@@ -114,9 +116,13 @@ pub record SameBelow (n : ℕ) (before after : List ℕ) : Type 0 where
 
 -- facts have been put into the table at a node: it has grown by a rule, has them, and is as it was at lower nodes
 pub record PutAt (By : ℕ → ℕ → Type 0) (facts : NodeFacts) (n : ℕ) (before after : List ℕ) (changed : Bool) : Type 0 where
-  pub grown : Grown By before after changed
+  pub grown : Grown masks By before after changed
   pub given : Holds facts after n
   pub lower : SameBelow n before after
+
+-- what the rules give a node has been put into a table that has facts of the book alone
+abbrev pub RulesPut : (ℕ → Node) → ℕ → List ℕ → List ℕ → Bool → Type 0
+RulesPut node n before after changed = PutAt (FactAt node) (ruledOf (node n) (factsAt before)) n before after changed
 
 -- the table has what the rules give a node
 abbrev pub RuleClosed : (ℕ → Node) → List ℕ → ℕ → Type 0
@@ -126,9 +132,16 @@ RuleClosed node table n = Holds (ruledOf (node n) (factsAt table)) table n
 pub record RefClosed (node : ℕ → Node) (table : List ℕ) (n : ℕ) : Type 0 where
   pub closed : isRef (node n) ≡ true → RuleClosed node table n
 
--- the nodes below a count have been visited upward: the table has grown, and has what the rules give all of them but refs
+-- a ref has been visited, and all refs below a count
+abbrev pub RefVisited : (ℕ → Node) → ℕ → List ℕ → List ℕ → Bool → Type 0
+RefVisited node = Visited masks (FactAt node) (RefClosed node)
+
+abbrev pub RefsTurned : (ℕ → Node) → ℕ → List ℕ → List ℕ → Bool → Type 0
+RefsTurned node = Turned masks (FactAt node) (RefClosed node)
+
+-- the nodes below a count have been visited upward: the table has grown, and has what the rules give all but refs
 pub record Climbed (node : ℕ → Node) (count : ℕ) (before after : List ℕ) (changed : Bool) : Type 0 where
-  pub grown : Grown (FactAt node) before after changed
+  pub grown : Grown masks (FactAt node) before after changed
   pub closed : (n : ℕ) → n < count → isRef (node n) ≡ false → RuleClosed node after n
 
 -- a mark at a place stands for a reachable node
@@ -141,8 +154,10 @@ pub record ChildClosed (node : ℕ → Node) (marks : List ℕ) (n : ℕ) : Type
 
 -- a node's children have been marked if it is: from any start, all by reaching
 pub record Spread (node : ℕ → Node) (n : ℕ) (before after : List ℕ) (changed : Bool) : Type 0 where
-  pub from : (start : ℕ) → Sound (ReachAt node start) before → Visited (ReachAt node start) (ChildClosed node) n before after changed
+  pub from : (start : ℕ) → Sound masks (ReachAt node start) before
+      → Visited masks (ReachAt node start) (ChildClosed node) n before after changed
 
 -- the children of all marked nodes have been marked: from any start, all by reaching
 pub record SpreadAll (node : ℕ → Node) (count : ℕ) (before after : List ℕ) (changed : Bool) : Type 0 where
-  pub from : (start : ℕ) → Sound (ReachAt node start) before → Turned (ReachAt node start) (ChildClosed node) count before after changed
+  pub from : (start : ℕ) → Sound masks (ReachAt node start) before
+      → Turned masks (ReachAt node start) (ChildClosed node) count before after changed

@@ -5,8 +5,10 @@ ghost use lib.ListN.{length, getD};
 ghost use Rattle.kinds.specs.Kinds.{has?, onlyKind};
 ghost use Rattle.book.specs.Decode.{nodes, GoodNodes};
 ghost use Rattle.rules.specs.Facts.{factsAt, tableSize, marksSize, Facts, marked?, IsMarked, Reached};
-ghost use Rattle.rules.specs.Growth.{Sound, Blank, Joined, Visited, Turned, visitedAt};
-ghost use Rattle.rules.specs.Step.{leftFrom, rightFrom, kindOf, eitherFacts, thenFacts, ruledOf, isRef, FactAt, Given, PutAt, RefClosed, Climbed, Spread, SpreadAll};
+ghost use Rattle.rules.specs.Growth.{masks, Sound, Blank, Joined, visitedAt};
+ghost use Rattle.rules.specs.Step.{leftFrom, rightFrom, kindOf, eitherFacts, thenFacts, ruledOf, isRef};
+ghost use Rattle.rules.specs.Step.{FactAt, Given, PutAt, Climbed, Spread, SpreadAll, RulesPut};
+ghost use Rattle.rules.specs.Step.{RefVisited, RefsTurned};
 use book::Node;
 
 // How many numbers a table of facts has: for 64 nodes, and for 512.
@@ -155,8 +157,8 @@ fn visit(book: &[u8], base: usize, count: usize, n: usize, table: &mut [u64]) ->
     requires { ⌜ GoodNodes (now book) base count 64 ⌝ }
     requires { ⌜ n < count ⌝ }
     requires { ⌜ tableSize count ≤ length (now table) ⌝ }
-    requires { ⌜ Sound (FactAt (nodes (now book) base count)) (now table) ⌝ }
-    ensures { λ r. ⌜ PutAt (FactAt (nodes (now (book .entry)) base count)) (ruledOf (nodes (now (book .entry)) base count n) (factsAt (now (table .entry)))) n (now (table .entry)) (now (table .exit)) r ⌝ }
+    requires { ⌜ Sound masks (FactAt (nodes (now book) base count)) (now table) ⌝ }
+    ensures { λ r. ⌜ RulesPut (nodes (now (book .entry)) base count) n (now (table .entry)) (now (table .exit)) r ⌝ }
 {
     let node = book::node_at(book, base, n);
     let facts = ruled(node, table);
@@ -167,7 +169,7 @@ fn visit(book: &[u8], base: usize, count: usize, n: usize, table: &mut [u64]) ->
 fn visit_all(book: &[u8], base: usize, count: usize, table: &mut [u64]) -> bool
     requires { ⌜ GoodNodes (now book) base count 64 ⌝ }
     requires { ⌜ tableSize count ≤ length (now table) ⌝ }
-    requires { ⌜ Sound (FactAt (nodes (now book) base count)) (now table) ⌝ }
+    requires { ⌜ Sound masks (FactAt (nodes (now book) base count)) (now table) ⌝ }
     ensures { λ r. ⌜ Climbed (nodes (now (book .entry)) base count) count (now (table .entry)) (now (table .exit)) r ⌝ }
 {
     let mut changed = false;
@@ -199,8 +201,8 @@ fn visit_ref(book: &[u8], base: usize, count: usize, n: usize, table: &mut [u64]
     requires { ⌜ GoodNodes (now book) base count 64 ⌝ }
     requires { ⌜ n < count ⌝ }
     requires { ⌜ tableSize count ≤ length (now table) ⌝ }
-    requires { ⌜ Sound (FactAt (nodes (now book) base count)) (now table) ⌝ }
-    ensures { λ r. ⌜ Visited (FactAt (nodes (now (book .entry)) base count)) (RefClosed (nodes (now (book .entry)) base count)) n (now (table .entry)) (now (table .exit)) r ⌝ }
+    requires { ⌜ Sound masks (FactAt (nodes (now book) base count)) (now table) ⌝ }
+    ensures { λ r. ⌜ RefVisited (nodes (now (book .entry)) base count) n (now (table .entry)) (now (table .exit)) r ⌝ }
 {
     let node = book::node_at(book, base, n);
     if is_ref(node) {
@@ -223,8 +225,8 @@ fn visited(count: usize, downward: bool, i: usize) -> usize
 fn visit_refs(book: &[u8], base: usize, count: usize, table: &mut [u64]) -> bool
     requires { ⌜ GoodNodes (now book) base count 64 ⌝ }
     requires { ⌜ tableSize count ≤ length (now table) ⌝ }
-    requires { ⌜ Sound (FactAt (nodes (now book) base count)) (now table) ⌝ }
-    ensures { λ r. ⌜ Turned (FactAt (nodes (now (book .entry)) base count)) (RefClosed (nodes (now (book .entry)) base count)) count (now (table .entry)) (now (table .exit)) r ⌝ }
+    requires { ⌜ Sound masks (FactAt (nodes (now book) base count)) (now table) ⌝ }
+    ensures { λ r. ⌜ RefsTurned (nodes (now (book .entry)) base count) count (now (table .entry)) (now (table .exit)) r ⌝ }
 {
     let mut changed = false;
     let mut i = 0;
@@ -235,8 +237,8 @@ fn visit_refs(book: &[u8], base: usize, count: usize, table: &mut [u64]) -> bool
     changed
 }
 
-// Fills the table, which is blank, with the facts of all nodes. All but refs have lower sides, so that after visits upward refs alone
-// can lack facts, and where none does, the table has them all.
+// Fills the table, which is blank, with the facts of all nodes. All but refs have lower sides, so that after visits
+// upward refs alone can lack facts, and where none does, the table has them all.
 pub fn least_facts(book: &[u8], base: usize, count: usize, table: &mut [u64])
     requires { ⌜ GoodNodes (now book) base count 64 ⌝ }
     requires { ⌜ Blank (tableSize count) (now table) ⌝ }
@@ -308,8 +310,8 @@ fn spread_all(book: &[u8], base: usize, count: usize, downward: bool, marks: &mu
     changed
 }
 
-// Marks the reachable nodes, in marks that are blank: turns, downward and upward by turns, until one changes nothing. Downward comes
-// first, since all but refs have lower children.
+// Marks the reachable nodes, in marks that are blank: turns, downward and upward by turns, until one changes nothing.
+// Downward comes first, since all but refs have lower children.
 pub fn reach(book: &[u8], base: usize, count: usize, start: usize, marks: &mut [u64])
     requires { ⌜ GoodNodes (now book) base count 64 ⌝ }
     requires { ⌜ start < count ⌝ }

@@ -11,12 +11,13 @@ use Rattle.book.specs.declared.Node.{Node}
 use Rattle.book.specs.declared.Judged.{Judged}
 use Rattle.book.specs.Book.{Book, WellFormed}
 use Rattle.book.specs.Form.{DONE, formOf, bookOf}
-use Rattle.grammar.specs.Rules.{Productive, Reach}
+use Rattle.grammar.specs.Rules.{Productive}
 use Rattle.grammar.specs.Passing.{Fruitful}
 use Rattle.rules.specs.Facts.{factsAt}
 use Rattle.rules.proofs.Bounds.{reach-below, first-kind}
-use Rattle.verdict.specs.Judges.{BARREN, CONFLICT, Reported, both-nullable, in-both-first, in-snf-and-first, judgement, Judges, malformed, barren, conflict, passes}
-use Rattle.verdict.specs.Conflicts.{Known, Leaves, ConflictAt, LowestConflict}
+use Rattle.verdict.specs.Judges.{BARREN, CONFLICT, Reported, both-nullable, in-both-first, in-snf-and-first, judgement}
+use Rattle.verdict.specs.Judges.{Judges, malformed, barren, conflict, passes}
+use Rattle.verdict.specs.Conflicts.{Known, Leaves, ConflictAt, LowestReached}
 use Rattle.verdict.proofs.Books.{book-well-formed}
 
 -- 1 to 4: what the form test says
@@ -53,9 +54,9 @@ module _ {bytes : List ℕ} {count : ℕ} {table : List ℕ} (known : Known byte
     answered-barren none =
         rw start-is (barren (known .good .form) (λ is. true≢false (sym (has?-is _ 0 .1 (fruitful-is .1 is)) ∙ none)))
 
-    module _ {n : ℕ} (lowest : LowestConflict (bookOf bytes .node) (Reach (bookOf bytes .node) start) count n) where
-      lowest-is : LowestConflict (bookOf bytes .node) (Reach (bookOf bytes .node) (bookOf bytes .start)) (bookOf bytes .count) n
-      lowest-is = subst₂ (λ s c. LowestConflict (bookOf bytes .node) (Reach (bookOf bytes .node) s) c n) start-is (known .good .count-is) lowest
+    module _ {n : ℕ} (lowest : LowestReached (bookOf bytes .node) start count n) where
+      lowest-is : LowestReached (bookOf bytes .node) (bookOf bytes .start) (bookOf bytes .count) n
+      lowest-is = subst₂ (λ s c. LowestReached (bookOf bytes .node) s c n) start-is (known .good .count-is) lowest
 
       module _ (below : n < count) {kind : ℕ} (found : ConflictAt (bookOf bytes .node) (bookOf bytes .node n) kind) where
         kind-reported : Reported (bookOf bytes .node) (bookOf bytes .node n) kind
@@ -67,7 +68,8 @@ module _ {bytes : List ℕ} {count : ℕ} {table : List ℕ} (known : Known byte
         -- 6: the lowest reachable node that has a conflict
         pub answered-conflict : has? (factsAt table start .productive) 0 ≡ true → Judges bytes (judgement CONFLICT n kind)
         answered-conflict has =
-            conflict (known .good .form) (fruitful has) (lowest-is .least) (lowest-is .among (omega (arith, known .good .count-is))) kind-reported
+            conflict (known .good .form) (fruitful has) (lowest-is .least) (lowest-is .among (omega (arith, known .good .count-is)))
+            kind-reported
 
       -- 0: no reachable node has a conflict
       pub answered-passes : has? (factsAt table start .productive) 0 ≡ true → count ≤ n → Judges bytes (judgement DONE 0 0)

@@ -68,7 +68,8 @@ module _ {bytes : List ℕ} {count : ℕ} (good : GoodBook bytes count) where
   look-up = ap (nodes bytes nodesAt) (good .count-is)
 
   -- its facts in a table
-  pub facts-known : {table : List ℕ} → tableSize count ≤ length table → Facts (nodes bytes nodesAt count) count table → Known bytes count table
+  pub facts-known : {table : List ℕ} → tableSize count ≤ length table → Facts (nodes bytes nodesAt count) count table
+      → Known bytes count table
   facts-known {table} long facts = record { good = good; long = long; facts = subst (λ node. Facts node count table) look-up facts }
 
 -- what is known of a book with so many nodes is known with its own count

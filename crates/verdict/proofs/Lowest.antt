@@ -10,10 +10,10 @@ use lib.Dec.{eqb}
 use Rattle.book.specs.declared.Node.{Node}
 use Rattle.book.specs.Decode.{nodes}
 use Rattle.book.specs.Form.{nodesAt, bookOf}
-use Rattle.grammar.specs.Rules.{Conflict, Reach}
+use Rattle.grammar.specs.Rules.{Conflict}
 use Rattle.rules.specs.Facts.{marked?, IsMarked, Reached}
 use Rattle.rules.proofs.Spreading.{marked-is}
-use Rattle.verdict.specs.Conflicts.{GoodBook, NO-CONFLICT, ConflictAt, Conflicting, LowestConflict}
+use Rattle.verdict.specs.Conflicts.{GoodBook, NO-CONFLICT, ConflictAt, Conflicting, LowestConflict, LowestReached}
 use Rattle.verdict.proofs.Books.{look-up}
 use Rattle.verdict.proofs.Unique.{reported-conflict}
 
@@ -75,8 +75,9 @@ module _ {node : ℕ → Node} {Among : ℕ → Type 0} {count : ℕ} where
   }
 
 -- where the marks have the reachable nodes of a book, the lowest marked conflict is the lowest reachable one
-pub lowest-reached : {bytes marks : List ℕ} {count start n : ℕ} → GoodBook bytes count → Reached (nodes bytes nodesAt count) start count marks
-    → LowestConflict (bookOf bytes .node) (IsMarked marks) count n → LowestConflict (bookOf bytes .node) (Reach (bookOf bytes .node) start) count n
+pub lowest-reached : {bytes marks : List ℕ} {count start n : ℕ} → GoodBook bytes count
+    → Reached (nodes bytes nodesAt count) start count marks → LowestConflict (bookOf bytes .node) (IsMarked marks) count n
+    → LowestReached (bookOf bytes .node) start count n
 lowest-reached {bytes} {marks} {count} {start} {n} good marked lowest = record {
   within = lowest .within;
   among = λ l. reached .reach-is n l .0 (lowest .among l);

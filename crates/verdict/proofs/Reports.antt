@@ -80,7 +80,9 @@ module _ {node : ℕ → Node} {left right : NodeFacts} where
 
       apart : both ≡ 0 → Nullable node (node l) × Nullable node (node r) → ⊥
       apart e (x, y) =
-          none (rw e at (has-shared (left .nullable) (right .nullable) 0 .1 (p .nullable-is 0 (omega arith) .1 x, q .nullable-is 0 (omega arith) .1 y)))
+          let l-has : Has (left .nullable) 0 = p .nullable-is 0 (omega arith) .1 x in
+          let r-has : Has (right .nullable) 0 = q .nullable-is 0 (omega arith) .1 y in
+          none (rw e at (has-shared (left .nullable) (right .nullable) 0 .1 (l-has, r-has)))
 
       clear : both ≡ 0 → lowestKind shared ≡ NO-CONFLICT → Conflict node (Either l r) → ⊥
       clear e f (c-nullable x y) = apart e (x, y)
@@ -156,8 +158,8 @@ module _ {bytes table : List ℕ} {count : ℕ} (known : Known bytes count table
     at-is = node-is (nodes-good (known .good)) below read ∙ ap (λ (node : ℕ → Node). node n) (look-up (known .good))
 
     -- the kind reported at it
-    pub conflict-read : ((i : ℕ) → getD table i 0 < 2 ^ 64) → {l r kind : ℕ} {left right : NodeFacts} → l ≡ leftFrom n at → left ≡ factsAt table l
-        → r ≡ rightFrom n at → right ≡ factsAt table r → kind ≡ reportedOf at left right
+    pub conflict-read : ((i : ℕ) → getD table i 0 < 2 ^ 64) → {l r kind : ℕ} {left right : NodeFacts} → l ≡ leftFrom n at
+        → left ≡ factsAt table l → r ≡ rightFrom n at → right ≡ factsAt table r → kind ≡ reportedOf at left right
         → ConflictAt (bookOf bytes .node) (bookOf bytes .node n) kind
     conflict-read fits l-is left-is r-is right-is kind-is =
         subst₂ (ConflictAt (bookOf bytes .node)) at-is (sym kind-is)

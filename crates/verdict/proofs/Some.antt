@@ -19,7 +19,8 @@ use Rattle.rules.proofs.Least.{Decided}
 use Rattle.rules.proofs.Marks.{productive-decided, nullable-decided, first-decided, snf-decided}
 use Rattle.rules.proofs.Reaching.{reach-decided}
 use Rattle.verdict.specs.declared.Verdict.{Verdict}
-use Rattle.verdict.specs.Judges.{Lowest, Reported, both-nullable, in-both-first, in-snf-and-first, Judges, malformed, barren, conflict, passes}
+use Rattle.verdict.specs.Judges.{Lowest, Reported, both-nullable, in-both-first, in-snf-and-first, Judges, malformed}
+use Rattle.verdict.specs.Judges.{barren, conflict, passes}
 use Rattle.verdict.proofs.Unique.{reported-conflict}
 
 unfoldable pub decide : {Of : ℕ → Type 0} → Decided Of → (i : ℕ) → Dec (Of i)

@@ -8,7 +8,8 @@ use Rattle.book.specs.Book.{Book}
 use Rattle.book.specs.Form.{bookOf}
 use Rattle.grammar.specs.Rules.{Conflict, c-nullable, c-first, c-follow, Reach}
 use Rattle.verdict.specs.declared.Verdict.{Verdict}
-use Rattle.verdict.specs.Judges.{CONFLICT, Lowest, Reported, both-nullable, in-both-first, in-snf-and-first, NoConflictBelow, judgement, Judges, malformed, barren, conflict, passes}
+use Rattle.verdict.specs.Judges.{CONFLICT, Lowest, Reported, both-nullable, in-both-first, in-snf-and-first}
+use Rattle.verdict.specs.Judges.{NoConflictBelow, judgement, Judges, malformed, barren, conflict, passes}
 
 -- a conflict that is reported is one
 pub reported-conflict : {node : ℕ → Node} {x : Node} {k : ℕ} → Reported node x k → Conflict node x

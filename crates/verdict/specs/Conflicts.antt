@@ -1,4 +1,4 @@
--- What the functions that judge a book answer in turn: the facts in a table, the kind reported at a node, the lowest conflict.
+-- What the functions that judge a book answer: the facts in a table, the kind reported at a node, the lowest conflict.
 use Prim.Native.Nat.{ℕ, _≤_, _<_}
 use mathlib.Core.Path.{_≡_}
 use mathlib.Core.Bool.{Bool, true, false, cond}
@@ -10,7 +10,7 @@ use Rattle.kinds.specs.Kinds.{inBoth, lowestKind}
 use Rattle.book.specs.declared.Node.{Node}
 use Rattle.book.specs.declared.Node.the-variants.{Fail, Empty, Token, Either, Then, Tagged, Ref}
 use Rattle.book.specs.Form.{DONE, formOf, bookOf}
-use Rattle.grammar.specs.Rules.{Conflict}
+use Rattle.grammar.specs.Rules.{Conflict, Reach}
 use Rattle.rules.specs.declared.NodeFacts.{NodeFacts}
 use Rattle.rules.specs.Facts.{tableSize, Facts}
 use Rattle.verdict.specs.declared.Verdict.{Verdict}
@@ -47,7 +47,9 @@ reportedOf Fail left right = NO-CONFLICT
 reportedOf Empty left right = NO-CONFLICT
 reportedOf (Token k) left right = NO-CONFLICT
 reportedOf (Either l r) left right =
-    cond (eqb (inBoth (left .nullable) (right .nullable)) 0) (lowestKind (inBoth (left .first) (right .first))) BOTH-NULLABLE
+    cond (eqb (inBoth (left .nullable) (right .nullable)) 0)
+    (lowestKind (inBoth (left .first) (right .first)))
+    BOTH-NULLABLE
 reportedOf (Then l r) left right = lowestKind (inBoth (left .snf) (right .first))
 reportedOf (Tagged l t) left right = NO-CONFLICT
 reportedOf (Ref l) left right = NO-CONFLICT
@@ -69,3 +71,7 @@ pub record LowestConflict (node : ℕ → Node) (Among : ℕ → Type 0) (count 
   pub among : n < count → Among n
   pub conflict : n < count → Conflict node (node n)
   pub least : (m : ℕ) → m < n → Among m → Conflict node (node m) → ⊥
+
+-- the lowest node reachable from a start that has a conflict, the count where none has one
+abbrev pub LowestReached : (ℕ → Node) → ℕ → ℕ → ℕ → Type 0
+LowestReached node start = LowestConflict node (Reach node start)

@@ -1,4 +1,4 @@
--- What judging a book comes to, whatever is then done with it: numbers 0 to 6, each with what must not have held before it.
+-- What judging a book comes to: numbers 0 to 6, each with what must not have held before it.
 use Prim.Native.Nat.{ℕ, _<_}
 use mathlib.Core.Path.{_≡_}
 use mathlib.Core.Logic.{_≢_}
@@ -32,7 +32,8 @@ pub data Reported (node : ℕ → Node) : Node → ℕ → Type 0 where
   both-nullable : {l r : ℕ} → Nullable node (node l) → Nullable node (node r) → Reported node (Either l r) BOTH-NULLABLE
   in-both-first : {l r k : ℕ} → (Nullable node (node l) × Nullable node (node r) → ⊥)
       → Lowest (λ j. First node (node l) j × First node (node r) j) k → Reported node (Either l r) k
-  in-snf-and-first : {l r k : ℕ} → Lowest (λ j. Snf node (node l) j × First node (node r) j) k → Reported node (Then l r) k
+  in-snf-and-first : {l r k : ℕ}
+      → Lowest (λ j. Snf node (node l) j × First node (node r) j) k → Reported node (Then l r) k
 
 -- no node below a number that is reachable from the start has a conflict
 abbrev pub NoConflictBelow : Book → ℕ → Type 0

@@ -3,11 +3,11 @@ ghost use mathlib.Core.Path.{_≡_};
 ghost use Prim.Native.Nat.{_<_, _≤_, _^_};
 ghost use lib.ListN.{length};
 ghost use Rattle.book.specs.Form.{DONE, countOf, formOf, bookOf};
-ghost use Rattle.grammar.specs.Rules.{Reach};
 ghost use Rattle.rules.specs.Facts.{tableSize, marksSize, IsMarked};
 ghost use Rattle.rules.specs.Growth.{Blank};
 ghost use Rattle.verdict.specs.Judges.{judgement, Judges};
-ghost use Rattle.verdict.specs.Conflicts.{Known, Leaves, EitherReport, reportedOf, ConflictAt, Conflicting, LowestConflict};
+ghost use Rattle.verdict.specs.Conflicts.{Known, Leaves, EitherReport, reportedOf};
+ghost use Rattle.verdict.specs.Conflicts.{ConflictAt, Conflicting, LowestConflict, LowestReached};
 use book::DONE;
 use book::NODES_AT;
 use book::Node;
@@ -112,7 +112,7 @@ fn lowest_marked(book: &[u8], count: usize, table: &[u64], marks: &[u64]) -> usi
     n
 }
 
-// The lowest reachable node that has a conflict, the count where none has one, with blank marks for the reachable nodes.
+// The lowest reachable node that has a conflict, the count where none has one, with blank marks for reachable nodes.
 fn lowest_conflict(
     book: &[u8],
     count: usize,
@@ -123,7 +123,7 @@ fn lowest_conflict(
     requires { ⌜ Known (now book) count (now table) ⌝ }
     requires { ⌜ start ≡ bookOf (now book) .start ⌝ }
     requires { ⌜ Blank marksSize (now marks) ⌝ }
-    ensures { λ r. ⌜ LowestConflict (bookOf (now (book .entry)) .node) (Reach (bookOf (now (book .entry)) .node) start) count r ⌝ }
+    ensures { λ r. ⌜ LowestReached (bookOf (now (book .entry)) .node) start count r ⌝ }
 {
     rules::reach(book, NODES_AT, count, start, marks);
     lowest_marked(book, count, table, marks)
@@ -148,8 +148,8 @@ fn judge_known(book: &[u8], count: usize, table: &[u64]) -> Verdict
     verdict_of(DONE, 0, 0)
 }
 
-// Judges a book, for any bytes: the first of 1 to 6, or that it passes, with its facts in the table. Where the form is good the table is
-// blank and long enough.
+// Judges a book, for any bytes: the first of 1 to 6, or that it passes, with its facts in the table. Where the form is
+// good the table is blank and long enough.
 pub fn judge(book: &[u8], table: &mut [u64]) -> Verdict
     requires { ⌜ (formOf (now book) .number ≡ DONE → Blank (tableSize (countOf (length (now book)))) (now table)) ⌝ }
     ensures { λ r. ⌜ Leaves (now (book .entry)) r (now (table .exit)) ⌝ }

@@ -18,17 +18,18 @@ use Rattle.plan.specs.Form.{planCount, planKinds, planStart, cellAt, planFrom, 
 use Rattle.running.specs.Running.{moveOf, noted, visit, takeOff, walk, event, logged, onward, finish, reads, reading, rowFirst, expected}
 use Rattle.compiler.specs.declared.Compiled.{Compiled}
 use Rattle.compiler.specs.Compiles.{answer, Compiles}
-use Rattle.verdict.proofs.Some.{decide, decide-both, lowest, null?, first?, shared?, reported?, conflict?, judged-fruitful, judged-start, judged-form, judges-some}
+use Rattle.verdict.proofs.Some.{decide, decide-both, lowest, null?, first?, shared?, reported?, conflict?}
+use Rattle.verdict.proofs.Some.{judged-fruitful, judged-start, judged-form, judges-some}
 use Rattle.compiler.proofs.Some.{marks, by-verdict, compiles-some}
 use Rattle.reader.specs.Numbers.{answered}
 use Rattle.reader.specs.Reads.{Outcome, outcome, acceptedOf, outcomeOf, runOf, readOf}
 use Rattle.worked.specs.Worked.{book, Case, compiled, read, Each, no-more, and, Holds, table}
 
 -- the numbers of an answer, and those of the buffer after them
-unfoldable compiledNumbers : Compiled → List ℕ → List ℕ
+abbrev compiledNumbers : Compiled → List ℕ → List ℕ
 compiledNumbers a plan = a .number ∷ a .place ∷ a .kind ∷ a .size ∷ plan
 
-unfoldable readNumbers : Outcome → List ℕ
+abbrev readNumbers : Outcome → List ℕ
 readNumbers o = o .reading .number ∷ o .reading .place ∷ o .reading .records ∷ o .reading .expected ∷ o .tree
 
 -- the numbers that a case comes to, and those that it says
@@ -42,7 +43,7 @@ said (read bytes run slots room a buffer) = readNumbers (outcome a buffer)
 
 -- a case whose numbers are those that it says holds
 holds : (c : Case) → computed c ≡ said c → Holds c
-unfolding computed said compiledNumbers readNumbers
+unfolding computed said
 holds (compiled bytes room a buffer) e =
     subst (λ (l : List ℕ). Compiles bytes room (answer (getD l 0 0) (getD l 1 0) (getD l 2 0) (getD l 3 0)) (drop 4 l)) e
     (compiles-some bytes room .2)
@@ -55,13 +56,13 @@ each (c ∷ cases) e = and (holds c (ap (λ (l : List (List ℕ)). getD l 0 []) 
 
 -- the numbers, computed
 all-right : map computed table ≡ map said table
-unfolding table book wordBytes flatMap computed said compiledNumbers readNumbers by-verdict compiles-some
+unfolding table book wordBytes flatMap computed said by-verdict compiles-some
     u16At bookOf nodeAt nodes nodeGood firstBad formOf ℕ-discrete decLt
-    filled kept-or differ turned settled settle decided ruled given facts-decided fact-decided productive-decided nullable-decided first-decided
-    snf-decided child? any reached? reach-decided
+    filled kept-or differ turned settled settle decided ruled given facts-decided fact-decided productive-decided nullable-decided
+    first-decided snf-decided child? any reached? reach-decided
     decide decide-both lowest null? first? shared? reported? conflict? judged-fruitful judged-start judged-form judges-some marks
-    planBytes planContents bookBody valuesFrom listsFrom Bytes.rowOf Bytes.rowsOf cellOf planCount planKinds planStart cellAt planFrom planGood
-    cellGood cellsJudged planJudged
+    planBytes planContents bookBody valuesFrom listsFrom Bytes.rowOf Bytes.rowsOf cellOf
+    planCount planKinds planStart cellAt planFrom planGood cellGood cellsJudged planJudged
     moveOf noted visit takeOff walk event logged onward finish reads reading rowFirst expected acceptedOf outcomeOf runOf readOf
 all-right = refl
 

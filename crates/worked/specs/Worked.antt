@@ -4,6 +4,7 @@ use mathlib.Core.Path.{_≡_}
 use mathlib.Core.List.{List, [], _∷_, _++_, flatMap}
 use lib.ListN.{length, take, set, replicate}
 use Rattle.words.specs.Words.{wordBytes, zeros}
+use Rattle.book.specs.Encode.{nodeWords}
 use Rattle.book.specs.declared.Node.{Node}
 use Rattle.book.specs.declared.Node.the-variants.{Fail, Empty, Token, Either, Then, Tagged, Ref}
 use Rattle.compiler.specs.declared.Compiled.{Compiled}
@@ -11,16 +12,6 @@ use Rattle.compiler.specs.Compiles.{answer, Compiles}
 use Rattle.reader.specs.declared.Reading.{Reading}
 use Rattle.reader.specs.Numbers.{answered}
 use Rattle.reader.specs.Reads.{outcome, readOf}
-
--- a node's type, left and right
-abbrev pub nodeWords : Node → List ℕ
-nodeWords Fail = 0 ∷ 0 ∷ 0 ∷ []
-nodeWords Empty = 1 ∷ 0 ∷ 0 ∷ []
-nodeWords (Token k) = 2 ∷ k ∷ 0 ∷ []
-nodeWords (Either l r) = 3 ∷ l ∷ r ∷ []
-nodeWords (Then l r) = 4 ∷ l ∷ r ∷ []
-nodeWords (Tagged l t) = 5 ∷ l ∷ t ∷ []
-nodeWords (Ref l) = 6 ∷ l ∷ 0 ∷ []
 
 -- the bytes of the book with these kinds, start and nodes
 unfoldable pub book : ℕ → ℕ → List Node → List ℕ
@@ -81,7 +72,7 @@ table =
     ∷ compiled (book 2 4 (Ref 4 ∷ Token 0 ∷ Then 0 1 ∷ Token 1 ∷ Either 2 3 ∷ [])) 2 (answer 6 4 1 0) (0 ∷ 0 ∷ [])
     ∷ compiled (book 1 4 (Ref 4 ∷ Fail ∷ Then 0 1 ∷ Token 0 ∷ Either 2 3 ∷ [])) 64 (answer 0 0 0 64) loop
     ∷ read loop (0 ∷ []) 1 2 (answered 0 1 2 0) (4 ∷ 3 ∷ []) ∷ compiled (book 1 0 (Fail ∷ [])) 0 (answer 5 0 0 0) []
-    ∷ compiled (book 1 1 (Token 0 ∷ Fail ∷ [])) 2 (answer 5 1 0 0) (0 ∷ 0 ∷ [])
+    ∷ compiled (book 1 1 (Fail ∷ Fail ∷ Token 0 ∷ [])) 2 (answer 5 1 0 0) (0 ∷ 0 ∷ [])
     ∷ compiled (book 1 0 (Empty ∷ [])) 33 (answer 0 0 0 32) (lone ++ (0 ∷ []))
     ∷ read lone [] 1 1 (answered 0 0 1 0) (32768 ∷ []) ∷ read lone (0 ∷ []) 1 1 (answered 13 0 0 0) (0 ∷ [])
     ∷ compiled (book 1 0 (Token 0 ∷ Token 0 ∷ Either 0 1 ∷ [])) 0 (answer 7 0 0 48) []

@@ -1,7 +1,7 @@
 pub mod PlanBytes
 pub mod PlanDone
 mod Row
-mod Sparse
+mod StoredByKinds
 mod Stored
 pub mod TableMarks
 pub mod Writing

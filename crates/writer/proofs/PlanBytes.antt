@@ -82,10 +82,17 @@ module _ (bytes : List ℕ) (marks : Marks) (formed : Formed bytes) where
   unfolding planBytes bookOf
   size-is =
       length-append (planContents count kinds) _
-      ∙ omega (arith, contents-long count kinds, length-append (bookBody bytes count) (rowsOf marks (bookOf bytes)), body-long bytes count body-within, length-rows marks (bookOf bytes))
+      ∙ omega (
+        arith,
+        contents-long count kinds,
+        length-append (bookBody bytes count) (rowsOf marks (bookOf bytes)),
+        body-long bytes count body-within,
+        length-rows marks (bookOf bytes),
+      )
 
   -- settings and nodes are those of the book
-  pub byte-copied : (at from i : ℕ) → at ≡ planSettingsAt + i → from ≡ settingsAt + i → at < rowsAt count → getD plan at 0 ≡ getD bytes from 0
+  pub byte-copied : (at from i : ℕ) → at ≡ planSettingsAt + i → from ≡ settingsAt + i → at < rowsAt count
+      → getD plan at 0 ≡ getD bytes from 0
   unfolding planBytes bookOf
   byte-copied at from i at-is from-is below =
       getD-second (planContents count kinds) _ at i (omega (arith, contents-long count kinds))
@@ -98,13 +105,15 @@ module _ (bytes : List ℕ) (marks : Marks) (formed : Formed bytes) where
   unfolding planBytes bookOf rowsOf
   row-stands n column below within =
       let place = n * (kinds + 1) + column in
-      getD-second (planContents count kinds) _ _ (length (bookBody bytes count) + place) (omega (arith, contents-long count kinds, body-long bytes count body-within))
+      getD-second (planContents count kinds) _ _ (length (bookBody bytes count) + place)
+      (omega (arith, contents-long count kinds, body-long bytes count body-within))
       ∙ getD-second (bookBody bytes count) _ _ place refl
       ∙ getD-lists (rowOf marks (bookOf bytes)) (kinds + 1) (length-row marks (bookOf bytes)) count 0 n column below within
       ∙ ap (λ (m : ℕ). getD (rowOf marks (bookOf bytes) m) column 0) (zero-add n)
 
   -- 16-bit numbers of settings and nodes, so many bytes from where the settings begin
-  pub u16-copied : (at from i : ℕ) → at ≡ planSettingsAt + i → from ≡ settingsAt + i → at + 2 ≤ rowsAt count → u16At plan at ≡ u16At bytes from
+  pub u16-copied : (at from i : ℕ) → at ≡ planSettingsAt + i → from ≡ settingsAt + i → at + 2 ≤ rowsAt count
+      → u16At plan at ≡ u16At bytes from
   unfolding u16At
   u16-copied at from i at-is from-is most =
       ap₂ (λ (low high : ℕ). low + 256 * high) (byte-copied at from i at-is from-is (omega arith))

@@ -6,19 +6,20 @@ use Prim.Native.Nat.{ℕ, _+_, _≤_, _<_}
 use native.Mathlib.Nat.{le-of-eq}
 use native.Mathlib.Omega.{arith}
 use borrow.Author.Tests.{eq-eqb, le-leb, lt-ltb}
-use lib.Dec.{eqb}
+use lib.Dec.{leb, eqb}
 use lib.ListN.{length}
 use Rattle.words.specs.Words.{u16At}
 use Rattle.words.proofs.Tests.{joined}
 use Rattle.book.specs.Book.{leftOf, rightOf}
-use Rattle.book.specs.Decode.{nodeAt, nodes}
+use Rattle.book.specs.Decode.{nodeAt, nodes, nodeGood, firstBad}
 use Rattle.book.specs.Form.{judged, DONE, settingsAt, nodesAt, countOf, settingsGood, bookOf}
 use Rattle.book.specs.declared.Node.{Node}
 use Rattle.book.specs.declared.Node.the-variants.{Fail, Empty, Token, Either, Then, Tagged, Ref}
 use Rattle.book.proofs.FirstBad.{first-none}
 use Rattle.book.proofs.Decoded.{Formed, nodes-below}
 use Rattle.running.specs.Cells.{Marks, cellOf, planFor}
-use Rattle.plan.specs.Form.{planNodesAt, planSettingsAt, planCount, planKinds, planStart, planOf, planFrom, sizeGood, planGood, hasCell, planJudged}
+use Rattle.plan.specs.Form.{planNodesAt, planSettingsAt, planCount, planKinds, planStart, planOf, planFrom}
+use Rattle.plan.specs.Form.{sizeGood, planGood, hasCell, planJudged}
 use Rattle.running.specs.Running.{reading}
 use Rattle.writer.specs.Bytes.{planBytes}
 use Rattle.running.proofs.Agrees.{Agree, reading-agrees}
@@ -58,17 +59,29 @@ module _ (bytes : List ℕ) (marks : Marks) (form : Formed bytes) where
   abbrev plan : List ℕ
   plan = planBytes bytes marks
 
-  form-good : planGood plan count kinds ≡ true
-  unfolding planGood planKinds planStart
-  form-good =
+  -- size, settings and nodes are good
+  size-good : sizeGood (length plan) count kinds ≡ true
+  size-good =
+      joined _ _ (joined _ _ (eq-eqb _ _ (size-is bytes marks form)) (le-leb 1 _ (form .size .some-node)))
+      (le-leb _ 512 (form .size .few-nodes))
+
+  settings-good : settingsGood plan planSettingsAt count ≡ true
+  unfolding planKinds planStart
+  settings-good =
       let kinds-are : u16At plan planSettingsAt ≡ kinds = kinds-is bytes marks form in
       let starts : u16At plan (planSettingsAt + 2) ≡ u16At bytes (settingsAt + 2) = start-is bytes marks form in
-      let settings : settingsGood plan planSettingsAt count ≡ true =
-      rw (kinds-are, starts) (joined _ _ (joined _ _ (le-leb 1 _ (form .some-kind)) (le-leb _ 64 (form .few-kinds))) (lt-ltb _ _ (form .start-below))) in
-      joined (sizeGood (length plan) count kinds) _
-      (joined _ _ (joined _ _ (eq-eqb _ _ (size-is bytes marks form)) (le-leb 1 _ (form .size .some-node))) (le-leb _ 512 (form .size .few-nodes)))
-      (joined _ _ (joined _ _ (contents-are bytes marks form) settings)
-      (le-leb count _ (le-of-eq (sym (first-all _ count (λ n below. good-is bytes marks form n below kinds count ∙ first-none _ count (form .nodes-good) n below))))))
+      rw (kinds-are, starts)
+      (joined _ _ (joined _ _ (le-leb 1 _ (form .some-kind)) (le-leb _ 64 (form .few-kinds))) (lt-ltb _ _ (form .start-below)))
+
+  nodes-good : leb count (firstBad (nodeGood plan planNodesAt kinds count) count 0) ≡ true
+  nodes-good =
+      le-leb count _
+      (le-of-eq
+      (sym (first-all _ count (λ n below. good-is bytes marks form n below kinds count ∙ first-none _ count (form .nodes-good) n below))))
+
+  form-good : planGood plan count kinds ≡ true
+  unfolding planGood
+  form-good = joined _ _ size-good (joined _ _ (joined _ _ (contents-are bytes marks form) settings-good) nodes-good)
 
   -- a node of the plan is the book's
   node-same : (n : ℕ) → n < count → nodeAt plan planNodesAt n ≡ bookOf bytes .node n
@@ -81,7 +94,8 @@ module _ (bytes : List ℕ) (marks : Marks) (form : Formed bytes) where
         kind-cell =
             λ n k below kind.
             rw (node-same n below, cell-is bytes marks form n k below kind) (cell-has marks k n (bookOf bytes .node n));
-        last-cell = λ n below. rw (mark-is bytes marks form n below) (chosen (λ mark. mark ≤ 1) (marks .null n) (omega arith) (omega arith));
+        last-cell =
+            λ n below. rw (mark-is bytes marks form n below) (chosen (λ mark. mark ≤ 1) (marks .null n) (omega arith) (omega arith));
       }
 
   pub plan-done : planJudged plan ≡ judged DONE 0
@@ -92,7 +106,7 @@ module _ (bytes : List ℕ) (marks : Marks) (form : Formed bytes) where
   unfolding planFrom bookOf
   plan-agrees =
       record {
-        count = sym (count-is bytes marks form);
+        count = sym counted;
         kinds = sym (kinds-is bytes marks form);
         start = sym (start-is bytes marks form);
         start-below = form .start-below;
@@ -100,13 +114,17 @@ module _ (bytes : List ℕ) (marks : Marks) (form : Formed bytes) where
         right = λ n below. ap rightOf (looked-up n below);
         left-below = λ n below. left-below below (form .good .proper n below);
         right-below = λ n below. right-below below (form .good .proper n below);
-        cell = λ n k below kind. rw (count-is bytes marks form, kinds-is bytes marks form) (sym (cell-is bytes marks form n k below kind));
-        null = λ n below. rw (count-is bytes marks form, kinds-is bytes marks form, mark-is bytes marks form n below) (marked (marks .null n));
+        cell = λ n k below kind. rw (counted, kinds-is bytes marks form) (sym (cell-is bytes marks form n k below kind));
+        null = λ n below. rw (counted, kinds-is bytes marks form, mark-is bytes marks form n below) (marked (marks .null n));
       }
     where
+      counted : planCount plan ≡ count
+      counted = count-is bytes marks form
+
       looked-up : (n : ℕ) → n < count → nodes bytes nodesAt count n ≡ nodes plan planNodesAt (planCount plan) n
       looked-up n below =
-          rw (count-is bytes marks form) (nodes-below bytes nodesAt count n below ∙ sym (node-is bytes marks form n below) ∙ sym (nodes-below plan planNodesAt count n below))
+          nodes-below bytes nodesAt count n below ∙ sym (node-is bytes marks form n below)
+          ∙ sym (nodes-below plan planNodesAt _ n (rw counted below))
 
       marked : (b : Bool) → b ≡ eqb (cond b 1 0) 1
       marked true = refl

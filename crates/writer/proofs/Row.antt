@@ -50,7 +50,8 @@ module _ (table : List ℕ) (count n : ℕ) (small : n < count) where
   cell-by (Either l r) below k =
       rw (lt-ltb n count small, lt-ltb l count below) (either-cells (has? (firstSet table n) k) (has? (firstSet table l) k))
   cell-by (Then l r) below k =
-      rw (lt-ltb n count small, lt-ltb l count below) (then-cells (has? (firstSet table n) k) (has? (firstSet table l) k) (has? (nullSet table l) 0))
+      rw (lt-ltb n count small, lt-ltb l count below)
+      (then-cells (has? (firstSet table n) k) (has? (firstSet table l) k) (has? (nullSet table l) 0))
   cell-by (Tagged l t) below k = rw (lt-ltb n count small) (same-cells (has? (firstSet table n) k) (has? (firstSet table l) k) 2)
   cell-by (Ref l) below k = rw (lt-ltb n count small) (same-cells (has? (firstSet table n) k) (has? (firstSet table l) k) 2)
 

@@ -14,7 +14,8 @@ use Rattle.words.proofs.Stored.{sets-then}
 -- a run from the front of zeros, and zeros behind it
 pub sets-zeros : (room : ℕ) (xs : List ℕ) → length xs ≤ room → sets (zeros room) 0 xs ≡ xs ++ zeros (room - length xs)
 sets-zeros room xs fits =
-    sets-eq xs (zeros room) 0 (omega (arith, length-replicate {A = ℕ} room 0)) ∙ ap (λ (l : List ℕ). xs ++ l) (rw zero-add (drop-zeros (length xs) room))
+    sets-eq xs (zeros room) 0 (omega (arith, length-replicate {A = ℕ} room 0))
+    ∙ ap (λ (l : List ℕ). xs ++ l) (rw zero-add (drop-zeros (length xs) room))
   where
     drop-zeros : (n room : ℕ) → drop n (zeros room) ≡ zeros (room - n)
     drop-zeros zero room = let all : room - 0 ≡ room = omega arith in rw all
@@ -54,12 +55,14 @@ module _ (value : ℕ → ℕ) where
     stored-all past = let none : count - k ≡ 0 = omega arith in rw none at (s .rest)
 
 -- so many elements of a list from a place on
-slice-values : (l : List ℕ) (from size : ℕ) → from + size ≤ length l → valuesFrom (λ i. getD l (from + i) 0) size 0 ≡ slice from (from + size) l
+slice-values : (l : List ℕ) (from size : ℕ) → from + size ≤ length l
+    → valuesFrom (λ i. getD l (from + i) 0) size 0 ≡ slice from (from + size) l
 unfolding valuesFrom
 slice-values l from size fits = go size 0 (omega arith) ∙ ap (λ (i : ℕ). slice i (from + size) l) (add-zero from)
   where
     go : (left n : ℕ) → n + left ≡ size → valuesFrom (λ i. getD l (from + i) 0) left n ≡ slice (from + n) (from + size) l
-    go zero n is = sym (ap (λ (i : ℕ). slice i (from + size) l) {x = from + n} {y = from + size} (omega arith) ∙ slice-empty (from + size) l)
+    go zero n is =
+        sym (ap (λ (i : ℕ). slice i (from + size) l) {x = from + n} {y = from + size} (omega arith) ∙ slice-empty (from + size) l)
     go (suc left) n is =
         ap (λ (r : List ℕ). getD l (from + n) 0 ∷ r)
         (go left (suc n) (omega arith) ∙ ap (λ (i : ℕ). slice i (from + size) l) {x = from + suc n} {y = suc (from + n)} (omega arith))

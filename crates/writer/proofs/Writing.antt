@@ -27,7 +27,7 @@ use Rattle.plan.proofs.Laws.{size-small}
 use Rattle.writer.proofs.PlanBytes.{contents-long, body-long, length-row, size-is}
 use Rattle.writer.proofs.Row.{row-by}
 use Rattle.plan.proofs.Rows.{row-within}
-use Rattle.writer.proofs.Sparse.{clear-zeros, clear-behind}
+use Rattle.writer.proofs.StoredByKinds.{clear-zeros, clear-behind}
 use Rattle.writer.proofs.Stored.{sets-zeros}
 
 -- a buffer of the same length serves as well
@@ -92,9 +92,13 @@ module _ {book table plan : List ℕ} {count kinds : ℕ} (w : Writable book tab
   pub rows-ready : {one two : List ℕ} → plan ≡ zeros (length plan) → one ≡ sets plan 0 (planContents count kinds)
       → two ≡ sets one planSettingsAt (bookBody book count) → Writable book table two count kinds × ClearFrom two (rowsAt count)
   rows-ready {one} {two} clear first second = (
-    writable-kept (ap length second ∙ length-sets one planSettingsAt (bookBody book count) ∙ ap length first ∙ length-sets plan 0 (planContents count kinds)) w,
+    writable-kept
+        (ap length second ∙ length-sets one planSettingsAt (bookBody book count) ∙ ap length first
+        ∙ length-sets plan 0 (planContents count kinds))
+        w,
     clear-behind (bookBody book count)
-        (clear-behind {behind = planSettingsAt} (planContents count kinds) (clear-zeros (length plan) 0 clear) first (omega (arith, contents-long count kinds)))
+        (clear-behind {behind = planSettingsAt} (planContents count kinds) (clear-zeros (length plan) 0 clear) first
+        (omega (arith, contents-long count kinds)))
         second
         (sym (body-long book count body-within)),
   )
@@ -119,7 +123,8 @@ module _ {book table plan : List ℕ} {count kinds : ℕ} (w : Writable book tab
         ∙ sets-then (zeros (length plan)) 0 (contents ++ body) (rowsAt count) rows
         (omega (arith, contents-long count kinds, length-append contents body, body-long book count body-within))
         ∙ rw (append-assoc, parts-are)
-        (sets-zeros (length plan) (planBytes book marks) (omega (arith, size, w .plan-long)) ∙ ap (λ (m : ℕ). planBytes book marks ++ zeros (length plan - m)) size))
+        (sets-zeros (length plan) (planBytes book marks) (omega (arith, size, w .plan-long))
+        ∙ ap (λ (m : ℕ). planBytes book marks ++ zeros (length plan - m)) size))
       where
         contents : List ℕ
         contents = planContents count kinds

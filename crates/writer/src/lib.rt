@@ -17,8 +17,8 @@ use forms::put_contents;
 use kinds::has;
 use kinds::lowest;
 use kinds::without;
-use plan::NODES_AT;
-use plan::SETTINGS_AT;
+use plan::PLAN_NODES_AT;
+use plan::PLAN_SETTINGS_AT;
 use plan::one_cell;
 use rules::facts_at;
 
@@ -36,10 +36,10 @@ fn put_book(plan: &mut [u8], book: &[u8], count: usize)
     requires { ⌜ (nodesAt + 6 * count ≤ length (now book)) × (rowsAt count ≤ length (now plan)) ⌝ }
     ensures { λ _. ⌜ now (plan .exit) ≡ sets (now (plan .entry)) planSettingsAt (bookBody (now (book .entry)) count) ⌝ }
 {
-    let size = NODES_AT + 6 * count - SETTINGS_AT;
+    let size = PLAN_NODES_AT + 6 * count - PLAN_SETTINGS_AT;
     let mut i = 0;
     while i < size {
-        plan[SETTINGS_AT + i] = book[book::SETTINGS_AT + i];
+        plan[PLAN_SETTINGS_AT + i] = book[book::SETTINGS_AT + i];
         i += 1;
     }
 }
@@ -84,7 +84,7 @@ fn far_cell(node: Node, skip: u8) -> u8
     }
 }
 
-// Writes a row into zeros: for each kind in FIRST(node) one cell if it is in FIRST(left), another if not; then the nullable mark.
+// Writes a row into zeros: for each kind in FIRST(node) a cell, one if it is in FIRST(left), another if not; then the mark.
 fn put_row(
     plan: &mut [u8],
     at: usize,
@@ -142,9 +142,10 @@ fn write_row(
 // Writes all rows, by a table of facts, into zeros.
 fn write_rows(book: &[u8], count: usize, kinds: usize, table: &[u64], plan: &mut [u8])
     requires { ⌜ Writable (now book) (now table) (now plan) count kinds × ClearFrom (now plan) (rowsAt count) ⌝ }
-    ensures { λ _. ⌜ now (plan .exit) ≡ sets (now (plan .entry)) (rowsAt count) (rowsOf (marksOf (now (table .entry)) count) (bookOf (now (book .entry)))) ⌝ }
+    ensures { λ _. ⌜ now (plan .exit)
+        ≡ sets (now (plan .entry)) (rowsAt count) (rowsOf (marksOf (now (table .entry)) count) (bookOf (now (book .entry)))) ⌝ }
 {
-    let mut at = NODES_AT + 6 * count;
+    let mut at = PLAN_NODES_AT + 6 * count;
     let mut n = 0;
     while n < count {
         write_row(book, n, count, kinds, table, plan, at);
@@ -156,7 +157,9 @@ fn write_rows(book: &[u8], count: usize, kinds: usize, table: &[u64], plan: &mut
 // Writes the plan of a book of good form, by a table of facts, into the front of a clear buffer.
 pub fn write_plan(book: &[u8], count: usize, kinds: usize, table: &[u64], plan: &mut [u8])
     requires { ⌜ Writable (now book) (now table) (now plan) count kinds × (now plan ≡ zeros (length (now plan))) ⌝ }
-    ensures { λ _. ⌜ now (plan .exit) ≡ planBytes (now (book .entry)) (marksOf (now (table .entry)) count) ++ zeros (length (now (plan .entry)) - planSize count kinds) ⌝ }
+    ensures { λ _. ⌜ now (plan .exit)
+        ≡ planBytes (now (book .entry)) (marksOf (now (table .entry)) count)
+        ++ zeros (length (now (plan .entry)) - planSize count kinds) ⌝ }
 {
     put_plan_contents(plan, count, kinds);
     put_book(plan, book, count);

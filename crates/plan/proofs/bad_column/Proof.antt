@@ -1,7 +1,8 @@
 -- `plan::bad_column` meets its contract. The loop's invariant: what is left to search gives the answer. The measure is what is left of
 -- the kinds.
 use mathlib.Core.Path.{refl}
-use Prim.Native.Nat.{_+_, _-_, _≤_}
+use mathlib.Core.Bool.{Bool}
+use Prim.Native.Nat.{ℕ, _+_, _-_, _≤_}
 use native.Mathlib.Omega.{arith}
 use borrow.Author.Needs.{needs}
 use borrow.Author.Tests.{not-true, not-false, le-leb, lt-leb}
@@ -53,9 +54,14 @@ shared-slice-read-if2 c = search needs
 add-result : tie.Need-add-result Inv-loop μ-loop
 add-result c = search needs
 
+-- the test of the row's columns
+abbrev columns : tie.After-loop Inv-loop μ-loop → ℕ → Bool
+columns c =
+    let args = c .before .before .args in
+    columnGood (args .plan .now) (args .at) (args .kinds) (args .one) (args .other)
+
 -- past the kinds the search stands at the last cell
-last : (c : tie.After-loop Inv-loop μ-loop)
-    → Searched (columnGood (c .before .before .args .plan .now) (c .before .before .args .at) (c .before .before .args .kinds) (c .before .before .args .one) (c .before .before .args .other)) (c .before .before .args .kinds + 1) (c .before .before .args .kinds)
+last : (c : tie.After-loop Inv-loop μ-loop) → Searched (columns c) (c .before .before .args .kinds + 1) (c .before .before .args .kinds)
 last c = at-last (Searched _ _) (c .before .loop .inv .0) (c .before .loop .inv .1) (c .loop-test .left)
 
 returns-2 : tie.Need-returns-2 Inv-loop μ-loop

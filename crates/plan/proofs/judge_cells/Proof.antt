@@ -1,12 +1,12 @@
--- `plan::judge_cells` meets its contract. The loop's invariant: what is left to search gives the answer, and `at` is where the row begins. The
--- measure is what is left of the count.
+-- `plan::judge_cells` meets its contract. The loop's invariant: the cells of the rows passed are good, and `at` is where the row begins.
+-- The measure is what is left of the count.
 use mathlib.Core.Path.{_≡_, refl, sym, _∙_}
 use Prim.Native.Nat.{_+_, _-_, _≤_}
 use native.Mathlib.Omega.{arith}
 use borrow.Author.Needs.{needs}
 use borrow.Author.Tests.{not-true, not-false, ltb-false}
 use Rattle.plan.specs.Form.{rowsAt, planSize}
-use Rattle.plan.proofs.Rows.{RowsSearched, rows-none, CellsOf, cells-of, rows-more, rows-bad, rows-all, row-within}
+use Rattle.plan.proofs.Rows.{RowsSearched, rows-none, CellsOf, cells-of, rows-more, rows-bad, rows-all, row-inside}
 use Rattle.plan.proofs.judge_cells.Statement.{statement}
 use Rattle.plan.proofs.judge_cells.Tie as tie
 
@@ -25,9 +25,22 @@ add-rows c = search needs
 loop-holds : tie.Need-loop-holds Inv-loop μ-loop
 loop-holds c = (refl, rows-none _ _ _)
 
+abbrev Turn : Type 0
+Turn = tie.In-loop Inv-loop μ-loop
+
+abbrev Tested : Type 0
+Tested = tie.After-row-good Inv-loop μ-loop
+
+-- the function's start, and the turn of a tested row
+abbrev start : Turn → tie.Start Inv-loop μ-loop
+start t = t .before .before .before
+
+abbrev turn : Tested → Turn
+turn v = v .before .before .before .before
+
 -- the row stands within the plan
-row-in : (c : tie.In-loop Inv-loop μ-loop) → c .before .loop .at + (c .before .before .before .args .kinds + 1) ≤ planSize (c .before .before .before .args .count) (c .before .before .before .args .kinds)
-row-in c = rw (c .before .loop .inv .1 .at-is) (row-within _ _ (c .loop-test .taken))
+row-in : (t : Turn) → t .before .loop .at + (start t .args .kinds + 1) ≤ planSize (start t .args .count) (start t .args .kinds)
+row-in t = row-inside _ _ _ (t .before .loop .inv .1) (t .loop-test .taken)
 
 node-at-requires : tie.Need-node-at-requires Inv-loop μ-loop
 node-at-requires c κs = search needs
@@ -39,16 +52,17 @@ other-cell-requires : tie.Need-other-cell-requires Inv-loop μ-loop
 other-cell-requires c κs = search needs
 
 -- the two cells that a row is tested for are those of its node's type
-cells : (c : tie.After-row-good Inv-loop μ-loop)
-    → CellsOf (c .before .before .before .before .before .before .before .args .count) (c .before .before .before .before .before .before .before .args .kinds)
-    (c .before .before .before .before .before .before .before .args .plan .now) (c .before .before .before .before .before .loop .n)
-    (c .before .before .one-cell .result) (c .before .other-cell .result)
-cells c = cells-of _ _ _ (c .before .before .before .node-at .ensures) (c .before .before .one-cell .ensures) (c .before .other-cell .ensures)
+cells : (v : Tested)
+    → CellsOf (start (turn v) .args .count) (start (turn v) .args .kinds) (start (turn v) .args .plan .now) (turn v .before .loop .n)
+    (v .before .before .one-cell .result) (v .before .other-cell .result)
+cells v =
+    cells-of _ _ _ (v .before .before .before .node-at .ensures) (v .before .before .one-cell .ensures) (v .before .other-cell .ensures)
 
 -- the column that is found is one of the row's
-column-small : (c : tie.After-bad-column Inv-loop μ-loop) → c .bad-column .result ≤ c .before .before .before .before .before .before .before .before .before .args .kinds
+column-small : (c : tie.After-bad-column Inv-loop μ-loop) → c .bad-column .result ≤ start (turn (c .before .before)) .args .kinds
 column-small c =
-    rw (c .bad-column .ensures) (ltb-false _ _ (sym (c .before .before .row-good .ensures) ∙ not-true _ (c .before .if1 .taken)))
+    rw (c .bad-column .ensures)
+    (ltb-false _ _ (sym (c .before .before .row-good .ensures) ∙ not-true _ (c .before .if1 .taken)))
 
 row-good-requires : tie.Need-row-good-requires Inv-loop μ-loop
 row-good-requires c κs = omega (arith, row-in (c .before .before .before))
@@ -68,9 +82,8 @@ cast-t16 c = omega (arith, column-small c, row-in (c .before .before .before .be
 returns : tie.Need-returns Inv-loop μ-loop
 returns c =
     let tested = c .before .before in
-    let turn = tested .before .before .before .before in
-    rows-bad _ _ _ (turn .before .loop .inv .1) (turn .loop-test .taken) (cells tested)
-    (tested .row-good .ensures) (not-true _ (c .before .if1 .taken)) (c .bad-column .ensures)
+    rows-bad _ _ _ (turn tested .before .loop .inv .1) (turn tested .loop-test .taken) (cells tested) (tested .row-good .ensures)
+    (not-true _ (c .before .if1 .taken)) (c .bad-column .ensures)
 
 add-at : tie.Need-add-at Inv-loop μ-loop
 add-at c = omega (arith, row-in (c .before .before .before .before .before))
@@ -86,11 +99,10 @@ loop-less c = search needs
 
 loop-again : tie.Need-loop-again Inv-loop μ-loop
 loop-again c =
-    let tested = c .before in
-    let turn = tested .before .before .before .before in (
+    let tested = c .before in (
       search needs,
-      rows-more _ _ _ (turn .before .loop .inv .1) (turn .loop-test .taken) (cells tested)
-          (tested .row-good .ensures) (not-false _ (c .if1 .left)),
+      rows-more _ _ _ (turn tested .before .loop .inv .1) (turn tested .loop-test .taken) (cells tested) (tested .row-good .ensures)
+          (not-false _ (c .if1 .left)),
     )
 
 returns-2 : tie.Need-returns-2 Inv-loop μ-loop

@@ -1,23 +1,23 @@
--- `plan::plan_good` meets its contract.
+-- `plan::plan_good` meets its contract: the length is tested first, then the rest at once.
 use mathlib.Core.Path.{_≡_, sym, _∙_}
 use mathlib.Core.Bool.{true}
 use native.Mathlib.Omega.{arith}
 use borrow.Author.Needs.{needs}
 use borrow.Author.Tests.{not-true, not-false}
-use denote.Ref.{now}
 use lib.ListN.{length}
 use Rattle.plan.specs.Form.{sizeGood, planGood}
 use Rattle.plan.proofs.Laws.{Sized, sized}
 use Rattle.plan.proofs.plan_good.Statement.{statement}
 use Rattle.plan.proofs.plan_good.Tie as tie
 
+abbrev start : tie.Else1 → tie.Start
+start c = c .before .before .before
+
 -- the length is good past the first test
-size-test : (c : tie.Else1)
-    → sizeGood (length (now (c .before .before .before .args .plan))) (c .before .before .before .args .count) (c .before .before .before .args .kinds) ≡ true
+size-test : (c : tie.Else1) → sizeGood (length (start c .args .plan .now)) (start c .args .count) (start c .args .kinds) ≡ true
 size-test c = sym (c .before .size-good .ensures) ∙ not-false _ (c .if1 .left)
 
-size-is : (c : tie.Else1)
-    → Sized (length (now (c .before .before .before .args .plan))) (c .before .before .before .args .count) (c .before .before .before .args .kinds)
+size-is : (c : tie.Else1) → Sized (length (start c .args .plan .now)) (start c .args .count) (start c .args .kinds)
 size-is c = sized _ _ _ (size-test c)
 
 size-good-requires : tie.Need-size-good-requires
@@ -39,8 +39,9 @@ first-bad-requires c κs = omega (arith, size-is (c .before .before))
 returns-2 : tie.Need-returns-2
 unfolding planGood
 returns-2 c =
-    rw
-    (size-test (c .before .before .before), ← c .before .before .plan-contents-good .ensures, ← c .before .settings-good .ensures, ← c .first-bad .ensures)
+    let settings = c .before in
+    let contents = settings .before in
+    rw (size-test (contents .before), ← contents .plan-contents-good .ensures, ← settings .settings-good .ensures, ← c .first-bad .ensures)
 
 pub plan-good-spec : {M : Type 1} → statement M
 plan-good-spec =

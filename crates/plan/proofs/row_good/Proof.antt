@@ -1,11 +1,13 @@
--- `plan::row_good` meets its contract. The loop's invariant: the tests of the columns passed, joined. The measure is what is left of the kinds.
+-- `plan::row_good` meets its contract. The loop's invariant: the tests of the columns passed, joined. The measure is what is left of
+-- the kinds.
 use mathlib.Core.Path.{refl}
-use Prim.Native.Nat.{_-_, _≤_}
+use mathlib.Core.Bool.{Bool}
+use Prim.Native.Nat.{ℕ, _-_, _≤_}
 use native.Mathlib.Omega.{arith}
 use borrow.Author.Needs.{needs}
 use Rattle.plan.specs.Rows.{columnGood, badColumn}
 use Rattle.plan.proofs.Columns.{kind-column, last-column, at-last}
-use Rattle.plan.proofs.Joined.{Joined, joined-none, joined-more, joined-all}
+use Rattle.plan.proofs.TestsJoined.{Joined, joined-none, joined-more, joined-all}
 use Rattle.plan.proofs.row_good.Statement.{statement}
 use Rattle.plan.proofs.row_good.Tie as tie
 
@@ -40,11 +42,17 @@ add-result c = search needs
 shared-slice-read-result : tie.Need-shared-slice-read-result Inv-loop μ-loop
 shared-slice-read-result c = search needs
 
+-- the test of the row's columns
+abbrev columns : tie.After-loop Inv-loop μ-loop → ℕ → Bool
+columns c =
+    let args = c .before .before .args in
+    columnGood (args .plan .now) (args .at) (args .kinds) (args .one) (args .other)
+
 -- past the kinds the tests of all kinds are joined
-kinds-joined : (c : tie.After-loop Inv-loop μ-loop)
-    → Joined (columnGood (c .before .before .args .plan .now) (c .before .before .args .at) (c .before .before .args .kinds) (c .before .before .args .one) (c .before .before .args .other)) (c .before .before .args .kinds) (c .before .loop .all)
+kinds-joined : (c : tie.After-loop Inv-loop μ-loop) → Joined (columns c) (c .before .before .args .kinds) (c .before .loop .all)
 kinds-joined c =
-    at-last (λ j. Joined (columnGood (c .before .before .args .plan .now) (c .before .before .args .at) (c .before .before .args .kinds) (c .before .before .args .one) (c .before .before .args .other)) j (c .before .loop .all)) (c .before .loop .inv .0) (c .before .loop .inv .1) (c .loop-test .left)
+    let inv = c .before .loop .inv in
+    at-last (λ j. Joined (columns c) j (c .before .loop .all)) (inv .0) (inv .1) (c .loop-test .left)
 
 returns : tie.Need-returns Inv-loop μ-loop
 unfolding badColumn

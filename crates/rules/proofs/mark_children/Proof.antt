@@ -22,19 +22,27 @@ right-from-requires c κs = search needs
 
 mark-requires-2 : tie.Need-mark-requires-2
 mark-requires-2 c κs =
-    let pre = c .before .before .before .before .before .before .before .before .before .before .pre in
-    omega (arith, c .right-from .ensures, right-inside (pre .0) (pre .1 .0) (c .before .before .before .before .before .before .before .node-at .ensures), pre .0 .few-nodes, c .before .before .before .before .mark .kept .0)
+    let marked = c .before .before .before .before in
+    let read = marked .before .before .before in
+    let pre = read .before .before .before .pre in
+    let inside = right-inside (pre .0) (pre .1 .0) (read .node-at .ensures) in
+    omega (arith, c .right-from .ensures, inside, pre .0 .few-nodes, marked .mark .kept .0)
 
 same-length : tie.Need-same-length
 same-length c = search needs
 
 returns : tie.Need-returns
 returns c =
-    let pre = c .before .before .before .before .before .before .before .before .before .before .before .before .before .pre in
-    children-spread (pre .0) (pre .1 .0) (c .before .before .before .before .before .before .before .before .before .before .node-at .ensures) (pre .1 .1 .0) (pre .1 .1 .1) (c .before .before .before .before .before .before .before .before .left-from .ensures)
-    (c .before .before .before .before .before .before .before .mark .ensures)
-    (c .before .before .before .right-from .ensures)
-    (c .before .before .mark2 .ensures)
+    let second = c .before .before in
+    let righted = second .before in
+    let first = righted .before .before .before .before in
+    let lefted = first .before in
+    let read = lefted .before .before in
+    let pre = read .before .before .before .pre in
+    children-spread (pre .0) (pre .1 .0) (read .node-at .ensures) (pre .1 .1 .0) (pre .1 .1 .1) (lefted .left-from .ensures)
+    (first .mark .ensures)
+    (righted .right-from .ensures)
+    (second .mark2 .ensures)
 
 pub mark-children-spec : {M : Type 1} → statement M
 mark-children-spec =

@@ -37,7 +37,8 @@ returns c =
     let third = fourth .before .before .before .before in
     let second = third .before .before .before .before in
     let first = second .before .before .before .before in
-    facts-put (first .before .before .before .pre) (first .grow .ensures) (second .grow2 .ensures) (third .grow3 .ensures) (fourth .grow4 .ensures)
+    facts-put (first .before .before .before .pre) (first .grow .ensures) (second .grow2 .ensures) (third .grow3 .ensures)
+    (fourth .grow4 .ensures)
 
 pub put-spec : {M : Type 1} → statement M
 put-spec =

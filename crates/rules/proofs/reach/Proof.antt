@@ -1,9 +1,10 @@
--- `rules::reach` meets its contract. The loop's invariant: all marks stand for reachable nodes, and the start is marked. The measure is what
--- is left for the sum of the marks' numbers to grow.
+-- `rules::reach` meets its contract. The loop's invariant: all marks stand for reachable nodes, and the start is marked. The measure is
+-- what is left for the sum of the marks' numbers to grow.
 use mathlib.Core.Path.{_∙_}
 use native.Mathlib.Omega.{arith}
 use lib.ListN.{length}
 use Rattle.book.specs.Decode.{nodes}
+use Rattle.rules.specs.Growth.{masks}
 use Rattle.rules.specs.Step.{ReachAt}
 use Rattle.rules.proofs.Growing.{Settling, settling-none, settling-more, settling-less, roomLeft}
 use Rattle.rules.proofs.Spreading.{start-sound, start-marked, turned-reached}
@@ -11,7 +12,7 @@ use Rattle.rules.proofs.reach.Statement.{statement}
 use Rattle.rules.proofs.reach.Tie as tie
 
 abbrev Inv-loop : tie.InvT-loop
-Inv-loop book base count start marks₀ downward₀ marks downward = Settling (ReachAt (nodes book base count) start) marks₀ marks
+Inv-loop book base count start marks₀ downward₀ marks downward = Settling masks (ReachAt (nodes book base count) start) marks₀ marks
 
 abbrev μ-loop : tie.MeasureT-loop
 μ-loop book base count start marks₀ downward₀ marks downward = roomLeft (length marks₀) marks
@@ -31,25 +32,36 @@ spread-all-requires c κs =
 
 loop-less : tie.Need-loop-less Inv-loop μ-loop
 loop-less c =
-    let settling = c .before .before .before .before .before .loop .inv in
-    settling-less settling (c .before .before .before .spread-all .ensures .from _ (settling .sound) .grown) (c .if1 .taken) (λ i. c .before .slice-known3 .given i .fits)
+    let turned = c .before .before .before in
+    let settling = turned .before .before .loop .inv in
+    settling-less settling (turned .spread-all .ensures .from _ (settling .sound) .grown) (c .if1 .taken)
+    (λ i. c .before .slice-known3 .given i .fits)
 
 loop-again : tie.Need-loop-again Inv-loop μ-loop
 loop-again c =
-    let settling = c .before .before .before .before .before .loop .inv in
-    settling-more settling (c .before .before .before .spread-all .ensures .from _ (settling .sound) .grown)
+    let turned = c .before .before .before in
+    let settling = turned .before .before .loop .inv in
+    settling-more settling (turned .spread-all .ensures .from _ (settling .sound) .grown)
 
 same-length : tie.Need-same-length Inv-loop μ-loop
 same-length c =
-    let settling = c .before .before .before .before .before .loop .inv in
-    settling-more settling (c .before .before .before .spread-all .ensures .from _ (settling .sound) .grown) .long ∙ c .before .before .before .before .before .before .before .before .mark .kept .0
+    let turned = c .before .before .before in
+    let turn = turned .before .before in
+    let settling = turn .loop .inv in
+    settling-more settling (turned .spread-all .ensures .from _ (settling .sound) .grown) .long
+    ∙ turn .before .before .before .mark .kept .0
 
 returns : tie.Need-returns Inv-loop μ-loop
 returns c =
-    let pre = c .before .before .before .before .before .before .before .before .before .before .before .before .pre in
-    let settling = c .before .before .before .before .before .loop .inv in
-    let started = start-marked (pre .1 .1) (omega (arith, pre .0 .few-nodes)) (c .before .before .before .before .before .before .before .before .mark .ensures) in
-    turned-reached (pre .0 .proper) (pre .1 .0) (settling .sound) (record { mark = settling .keeps _ _ (started .mark) }) (c .before .before .before .spread-all .ensures .from _ (settling .sound)) (c .if1 .left)
+    let turned = c .before .before .before in
+    let turn = turned .before .before in
+    let begun = turn .before .before .before in
+    let pre = begun .before .before .before .before .pre in
+    let settling = turn .loop .inv in
+    let started = start-marked (pre .1 .1) (omega (arith, pre .0 .few-nodes)) (begun .mark .ensures) in
+    turned-reached (pre .0 .proper) (pre .1 .0) (settling .sound) (record { mark = settling .keeps _ _ (started .mark) })
+    (turned .spread-all .ensures .from _ (settling .sound))
+    (c .if1 .left)
 
 pub reach-spec : {M : Type 1} → statement M
 reach-spec =

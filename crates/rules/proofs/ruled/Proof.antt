@@ -34,7 +34,9 @@ facts-at-requires : tie.Need-facts-at-requires
 facts-at-requires c κs = omega (arith, c .before .before .before .before .pre .1 .0, ap (leftFrom 0) (c .before .node2 .given .1))
 
 facts-at-requires-2 : tie.Need-facts-at-requires-2
-facts-at-requires-2 c κs = omega (arith, c .before .before .before .before .before .pre .1 .1, ap (rightFrom 0) (c .before .before .node2 .given .1))
+facts-at-requires-2 c κs =
+    let told = c .before .before in
+    omega (arith, told .before .before .before .pre .1 .1, ap (rightFrom 0) (told .node2 .given .1))
 
 either-facts-requires : tie.Need-either-facts-requires
 either-facts-requires c κs = search needs
@@ -46,7 +48,9 @@ facts-at-requires-3 : tie.Need-facts-at-requires-3
 facts-at-requires-3 c κs = omega (arith, c .before .before .before .before .pre .1 .0, ap (leftFrom 0) (c .before .node3 .given .1))
 
 facts-at-requires-4 : tie.Need-facts-at-requires-4
-facts-at-requires-4 c κs = omega (arith, c .before .before .before .before .before .pre .1 .1, ap (rightFrom 0) (c .before .before .node3 .given .1))
+facts-at-requires-4 c κs =
+    let told = c .before .before in
+    omega (arith, told .before .before .before .pre .1 .1, ap (rightFrom 0) (told .node3 .given .1))
 
 then-facts-requires : tie.Need-then-facts-requires
 then-facts-requires c κs = search needs
@@ -77,11 +81,19 @@ returns-3 c = rw (c .before .before .before .node .given .1, c .before .every3 .
 
 returns-4 : tie.Need-returns-4
 unfolding ruledOf
-returns-4 c = rw (c .before .before .before .before .node2 .given .1) (c .either-facts .ensures ∙ ap₂ eitherFacts (c .before .before .facts-at .ensures) (c .before .facts-at2 .ensures))
+returns-4 c =
+    let right = c .before in
+    let left = right .before in
+    rw (left .before .before .node2 .given .1)
+    (c .either-facts .ensures ∙ ap₂ eitherFacts (left .facts-at .ensures) (right .facts-at2 .ensures))
 
 returns-5 : tie.Need-returns-5
 unfolding ruledOf
-returns-5 c = rw (c .before .before .before .before .node3 .given .1) (c .then-facts .ensures ∙ ap₂ thenFacts (c .before .before .facts-at3 .ensures) (c .before .facts-at4 .ensures))
+returns-5 c =
+    let right = c .before in
+    let left = right .before in
+    rw (left .before .before .node3 .given .1)
+    (c .then-facts .ensures ∙ ap₂ thenFacts (left .facts-at3 .ensures) (right .facts-at4 .ensures))
 
 returns-6 : tie.Need-returns-6
 unfolding ruledOf

@@ -6,7 +6,7 @@ use native.Mathlib.Omega.{arith}
 use borrow.Author.Needs.{needs}
 use lib.ListN.{length}
 use Rattle.book.specs.Decode.{nodes}
-use Rattle.rules.specs.Growth.{Sound}
+use Rattle.rules.specs.Growth.{masks, Sound}
 use Rattle.rules.specs.Step.{ReachAt, ChildClosed}
 use Rattle.rules.proofs.Growing.{Turning, turning-none, turning-more, turning-end, grown-sound}
 use Rattle.rules.proofs.spread_all.Statement.{statement}
@@ -15,8 +15,8 @@ use Rattle.rules.proofs.spread_all.Tie as tie
 abbrev Inv-loop : tie.InvT-loop
 Inv-loop book base count downward marks₀ changed₀ i₀ marks changed i =
     (length marks ≡ length marks₀)
-    × ((start : ℕ) → Sound (ReachAt (nodes book base count) start) marks₀
-    → Turning (ReachAt (nodes book base count) start) (ChildClosed (nodes book base count)) count downward marks₀ marks i changed)
+    × ((start : ℕ) → Sound masks (ReachAt (nodes book base count) start) marks₀
+    → Turning masks (ReachAt (nodes book base count) start) (ChildClosed (nodes book base count)) count downward marks₀ marks i changed)
 
 abbrev μ-loop : tie.MeasureT-loop
 μ-loop book base count downward marks₀ changed₀ i₀ marks changed i = count - i
@@ -44,13 +44,15 @@ loop-less : tie.Need-loop-less Inv-loop μ-loop
 loop-less c = search needs
 
 loop-again : tie.Need-loop-again Inv-loop μ-loop
-loop-again c = (
-  c .before .before .spread .kept .1 .1 .1 .1 .0 ∙ c .before .before .before .before .before .before .loop .inv .0,
-  λ start sound.
-      let turning = c .before .before .before .before .before .before .loop .inv .1 start sound in
-      turning-more turning (c .before .before .before .before .visited .ensures .0)
-      (c .before .before .spread .ensures .from start (grown-sound (turning .grown) sound)),
-)
+loop-again c =
+    let visited = c .before .before in
+    let chosen = visited .before .before in
+    let turn = chosen .before .before in (
+      visited .spread .kept .1 .1 .1 .1 .0 ∙ turn .loop .inv .0,
+      λ start sound.
+          let turning = turn .loop .inv .1 start sound in
+          turning-more turning (chosen .visited .ensures .0) (visited .spread .ensures .from start (grown-sound (turning .grown) sound)),
+    )
 
 same-length : tie.Need-same-length Inv-loop μ-loop
 same-length c = c .before .loop .inv .0

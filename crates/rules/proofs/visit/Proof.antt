@@ -28,8 +28,11 @@ same-length c = search needs
 
 returns : tie.Need-returns
 returns c =
-    let pre = c .before .before .before .before .before .before .before .before .before .pre in
-    rules-put (pre .1 .1 .1) (node-is (pre .0) (pre .1 .0) (c .before .before .before .before .before .before .node-at .ensures)) (c .before .before .before .before .ruled .ensures) (c .before .before .put .ensures)
+    let stored = c .before .before in
+    let ruled = stored .before .before in
+    let read = ruled .before .before in
+    let pre = read .before .before .before .pre in
+    rules-put (pre .1 .1 .1) (node-is (pre .0) (pre .1 .0) (read .node-at .ensures)) (ruled .ruled .ensures) (stored .put .ensures)
 
 pub visit-spec : {M : Type 1} → statement M
 visit-spec = tie.close (tie.spec node-at-requires ruled-requires put-requires same-length returns)

@@ -32,7 +32,10 @@ loop-less c = search needs
 
 loop-again : tie.Need-loop-again Inv-loop μ-loop
 loop-again c =
-    climbed-more (c .before .before .before .before .before .before .before .before .pre .0 .proper) (c .before .before .before .before .loop-test .taken) (c .before .before .before .before .before .loop .inv) (c .before .before .visit .ensures)
+    let visited = c .before .before in
+    let tested = visited .before .before in
+    let turn = tested .before in
+    climbed-more (turn .before .before .before .pre .0 .proper) (tested .loop-test .taken) (turn .loop .inv) (visited .visit .ensures)
 
 same-length : tie.Need-same-length Inv-loop μ-loop
 same-length c = c .before .loop .inv .grown .long

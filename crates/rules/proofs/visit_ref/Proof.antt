@@ -18,8 +18,9 @@ left-from-requires c κs = search needs
 
 facts-at-requires : tie.Need-facts-at-requires
 facts-at-requires c κs =
-    let pre = c .before .before .before .before .before .before .before .pre in
-    omega (arith, c .left-from .ensures, left-inside (pre .0) (pre .1 .0) (c .before .before .before .before .node-at .ensures), pre .1 .1 .0)
+    let read = c .before .before .before .before in
+    let pre = read .before .before .before .pre in
+    omega (arith, c .left-from .ensures, left-inside (pre .0) (pre .1 .0) (read .node-at .ensures), pre .1 .1 .0)
 
 put-requires : tie.Need-put-requires
 put-requires c κs = search needs
@@ -29,12 +30,17 @@ same-length c = search needs
 
 returns : tie.Need-returns
 returns c =
-    let pre = c .before .before .before .before .before .before .before .before .before .before .before .before .pre in
-    ref-visited (pre .1 .1 .1) (node-is (pre .0) (pre .1 .0) (c .before .before .before .before .before .before .before .before .before .node-at .ensures))
-    (sym (c .before .before .before .before .before .before .before .before .is-ref .ensures) ∙ c .before .before .before .before .before .before .before .if1 .taken)
-    (c .before .before .before .before .before .left-from .ensures)
-    (c .before .before .before .before .facts-at .ensures)
-    (c .before .before .put .ensures)
+    let stored = c .before .before in
+    let known = stored .before .before in
+    let sided = known .before in
+    let tested = sided .before .before in
+    let read = tested .before .before in
+    let pre = read .before .before .before .pre in
+    ref-visited (pre .1 .1 .1) (node-is (pre .0) (pre .1 .0) (read .node-at .ensures))
+    (sym (tested .before .is-ref .ensures) ∙ tested .if1 .taken)
+    (sided .left-from .ensures)
+    (known .facts-at .ensures)
+    (stored .put .ensures)
 
 returns-2 : tie.Need-returns-2
 returns-2 c =

@@ -1,9 +1,11 @@
--- `rules::visit_refs` meets its contract. The loop's invariant: the first steps of the turn have been made. The measure is what is left of them.
+-- `rules::visit_refs` meets its contract. The loop's invariant: the first steps of the turn have been made. The measure is what is left of
+-- them.
 use Prim.Native.Nat.{_-_}
 use mathlib.Core.Bool.{true}
 use native.Mathlib.Omega.{arith}
 use borrow.Author.Needs.{needs}
 use Rattle.book.specs.Decode.{nodes}
+use Rattle.rules.specs.Growth.{masks}
 use Rattle.rules.specs.Step.{FactAt, RefClosed}
 use Rattle.rules.proofs.Growing.{Turning, turning-none, turning-more, turning-end, grown-sound}
 use Rattle.rules.proofs.visit_refs.Statement.{statement}
@@ -11,7 +13,7 @@ use Rattle.rules.proofs.visit_refs.Tie as tie
 
 abbrev Inv-loop : tie.InvT-loop
 Inv-loop book base count table₀ changed₀ i₀ table changed i =
-    Turning (FactAt (nodes book base count)) (RefClosed (nodes book base count)) count true table₀ table i changed
+    Turning masks (FactAt (nodes book base count)) (RefClosed (nodes book base count)) count true table₀ table i changed
 
 abbrev μ-loop : tie.MeasureT-loop
 μ-loop book base count table₀ changed₀ i₀ table changed i = count - i
@@ -41,7 +43,9 @@ loop-less c = search needs
 
 loop-again : tie.Need-loop-again Inv-loop μ-loop
 loop-again c =
-    turning-more (c .before .before .before .before .before .before .loop .inv) (c .before .before .before .before .visited .ensures .0) (c .before .before .visit-ref .ensures)
+    let visited = c .before .before in
+    let chosen = visited .before .before in
+    turning-more (chosen .before .before .loop .inv) (chosen .visited .ensures .0) (visited .visit-ref .ensures)
 
 same-length : tie.Need-same-length Inv-loop μ-loop
 same-length c = c .before .loop .inv .grown .long

@@ -53,7 +53,11 @@ same-length : tie.Need-same-length
 same-length c = search needs
 
 returns-2 : tie.Need-returns-2
-returns-2 c = record { judges = c .judge-known .ensures; known = λ done. known-own (judge-known-requires (c .before) (c .judge-known .lifetimes)) }
+returns-2 c =
+    record {
+      judges = c .judge-known .ensures;
+      known = λ done. known-own (judge-known-requires (c .before) (c .judge-known .lifetimes));
+    }
 
 pub judge-spec : {M : Type 1} → statement M
 judge-spec =

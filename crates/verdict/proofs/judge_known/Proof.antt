@@ -21,7 +21,8 @@ start-is c = c .u16-at .ensures .0 ∙ book-start _
 
 -- what the test of the start says of the table
 test-is : (c : tie.After-has)
-    → has? (factsAt (now (c .before .before .before .before .before .args .table)) (c .before .before .u16-at .result) .productive) 0 ≡ c .has .result
+    → has? (factsAt (now (c .before .before .before .before .before .args .table)) (c .before .before .u16-at .result) .productive) 0
+    ≡ c .has .result
 test-is c = sym (c .has .ensures ∙ ap (λ (f : NodeFacts). has? (f .productive) 0) (c .before .facts-at .ensures))
 
 add-u16-at : tie.Need-add-u16-at

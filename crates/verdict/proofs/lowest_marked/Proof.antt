@@ -1,5 +1,5 @@
--- `verdict::lowest_marked` meets its contract. The loop's invariant: no marked node passed has a conflict. The measure is what is left of the
--- count.
+-- `verdict::lowest_marked` meets its contract. The loop's invariant: no marked node passed has a conflict. The measure is what is left of
+-- the count.
 use Prim.Native.Nat.{_-_}
 use borrow.Author.Needs.{needs}
 use Rattle.book.specs.Form.{bookOf}
@@ -30,7 +30,10 @@ loop-less : tie.Need-loop-less Inv-loop μ-loop
 loop-less c = search needs
 
 loop-again : tie.Need-loop-again Inv-loop μ-loop
-loop-again c = passed-more (c .before .before .before .loop .inv) (c .before .before .loop-test .taken) (c .before .conflicting .ensures) (c .if1 .left)
+loop-again c =
+    let told = c .before in
+    let tested = told .before in
+    passed-more (tested .before .loop .inv) (tested .loop-test .taken) (told .conflicting .ensures) (c .if1 .left)
 
 returns-2 : tie.Need-returns-2 Inv-loop μ-loop
 returns-2 c = passed-all (c .before .loop .inv) (c .loop-test .left)

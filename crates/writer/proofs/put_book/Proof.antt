@@ -1,5 +1,5 @@
--- `writer::put_book` meets its contract. The loop's invariant: what is left to store makes up the book's settings and nodes. The measure is what is
--- left of them.
+-- `writer::put_book` meets its contract. The loop's invariant: what is left to store makes up the book's settings and nodes. The measure
+-- is what is left of them.
 use Prim.Native.Nat.{_+_, _-_}
 use native.Mathlib.Omega.{arith}
 use borrow.Author.Needs.{needs}

@@ -1,16 +1,17 @@
--- `writer::put_row` meets its contract. The loop's invariant: all cells but those of the kinds left are the row's, and `k` is the lowest kind left.
--- The measure is the set of the kinds left, as a number.
+-- `writer::put_row` meets its contract. The loop's invariant: all cells but those of the kinds left are the row's, and `k` is the lowest
+-- kind left. The measure is the set of the kinds left, as a number.
 use mathlib.Core.Path.{_≡_, _∙_}
 use native.Mathlib.Omega.{arith}
 use borrow.Author.Needs.{needs}
 use lib.ListN.{length-set}
 use Rattle.kinds.specs.Kinds.{lowestKind}
-use Rattle.writer.proofs.Sparse.{Sparse, sparse-none, sparse-less, sparse-more, sparse-all}
+use Rattle.writer.proofs.StoredByKinds.{StoredByKinds, by-kinds-none, by-kinds-less, by-kinds-more, by-kinds-all}
 use Rattle.writer.proofs.put_row.Statement.{statement}
 use Rattle.writer.proofs.put_row.Tie as tie
 
 abbrev Inv-loop : tie.InvT-loop
-Inv-loop plan₀ at kinds first left near far mark rest₀ k₀ plan rest k = Sparse first left near far plan₀ plan at kinds rest × (k ≡ lowestKind rest)
+Inv-loop plan₀ at kinds first left near far mark rest₀ k₀ plan rest k =
+    StoredByKinds first left near far plan₀ plan at kinds rest × (k ≡ lowestKind rest)
 
 abbrev μ-loop : tie.MeasureT-loop
 μ-loop plan₀ at kinds first left near far mark rest₀ k₀ plan rest k = rest
@@ -19,7 +20,7 @@ lowest-requires : tie.Need-lowest-requires Inv-loop μ-loop
 lowest-requires c κs = search needs
 
 loop-holds : tie.Need-loop-holds Inv-loop μ-loop
-loop-holds c = (sparse-none _ _ _ _ _ (omega arith) (c .before .before .pre .2), c .lowest .ensures)
+loop-holds c = (by-kinds-none _ _ _ _ _ (omega arith) (c .before .before .pre .2), c .lowest .ensures)
 
 has-requires : tie.Need-has-requires Inv-loop μ-loop
 has-requires c κs = search needs
@@ -39,17 +40,24 @@ without-requires c κs = search needs
 lowest-requires-2 : tie.Need-lowest-requires-2 Inv-loop μ-loop
 lowest-requires-2 c κs = search needs
 
+-- the function's start, seen from the loop's head
+abbrev start : tie.At-loop Inv-loop μ-loop → tie.Start Inv-loop μ-loop
+start l = l .before .before .before
+
 loop-less : tie.Need-loop-less Inv-loop μ-loop
 loop-less c =
-    let tested = c .before .before .before .before in
-    sparse-less _ _ _ _ (tested .before .loop .inv .0) (tested .before .loop .inv .1) (tested .before .before .before .before .pre .1) (tested .loop-test .taken) (c .before .without .ensures)
+    let turn = c .before .before .before .before in
+    let inv = turn .before .loop .inv in
+    by-kinds-less _ _ _ _ (inv .0) (inv .1) (start (turn .before) .pre .1) (turn .loop-test .taken) (c .before .without .ensures)
 
 loop-again : tie.Need-loop-again Inv-loop μ-loop
 loop-again c =
-    let tested = c .before .before .before .before in
-    let entry = tested .before .before .before .before in (
-      sparse-more _ _ _ _ (tested .before .loop .inv .0) (tested .before .loop .inv .1) (entry .pre .1) (omega (arith, entry .pre .0)) (tested .loop-test .taken)
-          (c .before .before .cell-if .ensures ∙ rw (c .before .before .before .has .ensures))
+    let stored = c .before .before in
+    let turn = stored .before .before in
+    let inv = turn .before .loop .inv in
+    let pre = start (turn .before) .pre in (
+      by-kinds-more _ _ _ _ (inv .0) (inv .1) (pre .1) (omega (arith, pre .0)) (turn .loop-test .taken)
+          (stored .cell-if .ensures ∙ rw (stored .before .has .ensures))
           (c .before .without .ensures),
       c .lowest2 .ensures,
     )
@@ -65,7 +73,8 @@ same-length c = length-set (c .before .loop .plan) _ _ ∙ c .before .loop .inv 
 
 returns : tie.Need-returns Inv-loop μ-loop
 returns c =
-    sparse-all _ _ _ _ (c .before .loop .inv .0) (c .before .loop .inv .1) _ (omega (arith, c .before .before .before .before .pre .0)) (c .loop-test .left)
+    let inv = c .before .loop .inv in
+    by-kinds-all _ _ _ _ (inv .0) (inv .1) _ (omega (arith, start (c .before) .pre .0)) (c .loop-test .left)
 
 pub put-row-spec : {M : Type 1} → statement M
 put-row-spec =

@@ -15,12 +15,17 @@ put-book-requires c κs =
     let ready = c .before .before .before .before .before .before .before .before .pre .0 in
     (body-within ready, omega (arith, rows-within ready))
 
+-- the contents have been written, then settings and nodes; and where the function began
+abbrev begun : tie.After-put-book → tie.After-put-plan-contents
+begun c = c .before .before .before .before
+
+abbrev start : tie.After-put-book → tie.Start
+start c = begun c .before .before .before .before .before
+
 write-rows-requires : tie.Need-write-rows-requires
 write-rows-requires c κs =
     let filled = c .before .before .before in
-    let begun = filled .before .before .before .before in
-    let entry = begun .before .before .before .before .before in
-    rows-ready (entry .pre .0) (entry .pre .1) (begun .put-plan-contents .ensures) (filled .put-book .ensures)
+    rows-ready (start filled .pre .0) (start filled .pre .1) (begun filled .put-plan-contents .ensures) (filled .put-book .ensures)
 
 same-length : tie.Need-same-length
 same-length c = search needs
@@ -29,9 +34,8 @@ returns : tie.Need-returns
 returns c =
     let written = c .before .before in
     let filled = written .before .before .before .before in
-    let begun = filled .before .before .before .before in
-    let entry = begun .before .before .before .before .before in
-    plan-written (entry .pre .0) _ (entry .pre .1) (begun .put-plan-contents .ensures) (filled .put-book .ensures) (written .write-rows .ensures)
+    plan-written (start filled .pre .0) _ (start filled .pre .1) (begun filled .put-plan-contents .ensures) (filled .put-book .ensures)
+    (written .write-rows .ensures)
 
 pub write-plan-spec : {M : Type 1} → statement M
 write-plan-spec = tie.close (tie.spec put-plan-contents-requires put-book-requires write-rows-requires same-length returns)

@@ -42,7 +42,8 @@ getD-stored value l at (suc count) n zero below fits =
 getD-stored value l at (suc count) n (suc k) below fits =
     let next : at + suc k ≡ suc at + k = omega arith in
     rw next
-    (getD-stored value (set l at (value n)) (suc at) count (suc n) k (omega arith) (omega (arith, length-set l at (value n))) ∙ ap value (omega arith))
+    (getD-stored value (set l at (value n)) (suc at) count (suc n) k (omega arith) (omega (arith, length-set l at (value n)))
+    ∙ ap value (omega arith))
 
 -- zeros are clear from any place on
 pub clear-zeros : {l : List ℕ} (room at : ℕ) → l ≡ zeros room → ClearFrom l at
@@ -59,7 +60,7 @@ module _ (first left near far : ℕ) where
   value = cellBy first left near far
 
   -- a loop that stores the cells of a set's kinds has these kinds left: all other cells are the row's
-  pub record Sparse (before after : List ℕ) (at kinds rest : ℕ) : Type 0 where
+  pub record StoredByKinds (before after : List ℕ) (at kinds rest : ℕ) : Type 0 where
     pub long : length after ≡ length before
     pub small : rest < 2 ^ 64
     pub part : (j : ℕ) → Has rest j → Has first j
@@ -73,8 +74,8 @@ module _ (first left near far : ℕ) where
   value-some : (j : ℕ) → Has first j → value j ≡ cond (has? left j) near far
   value-some j has = rw (has?-is first j .1 has) refl
 
-  pub sparse-none : {l : List ℕ} {at : ℕ} (kinds : ℕ) → first < 2 ^ 64 → ClearFrom l at → Sparse l l at kinds first
-  sparse-none {l} {at} kinds small clear = record {
+  pub by-kinds-none : {l : List ℕ} {at : ℕ} (kinds : ℕ) → first < 2 ^ 64 → ClearFrom l at → StoredByKinds l l at kinds first
+  by-kinds-none {l} {at} kinds small clear = record {
     long = refl;
     small = small;
     part = λ j has. has;
@@ -82,27 +83,27 @@ module _ (first left near far : ℕ) where
     others = λ i apart. refl;
   }
 
-  module _ {before after : List ℕ} {at kinds rest k : ℕ} (s : Sparse before after at kinds rest) (lowest : k ≡ lowestKind rest) where
+  module _ {before after : List ℕ} {at kinds rest k : ℕ} (s : StoredByKinds before after at kinds rest) (lowest : k ≡ lowestKind rest) where
     -- the lowest kind left is in the set, where it is one of the row's
-    pub sparse-has : kinds ≤ 64 → k < kinds → Has rest k
-    sparse-has few below = rw lowest (lowest-is (s .small) .found (λ e. omega (arith, lowest-is (s .small) .empty e)))
+    pub by-kinds-has : kinds ≤ 64 → k < kinds → Has rest k
+    by-kinds-has few below = rw lowest (lowest-is (s .small) .found (λ e. omega (arith, lowest-is (s .small) .empty e)))
 
-    pub sparse-less : {less : ℕ} → kinds ≤ 64 → k < kinds → less ≡ withoutKind rest k → less < rest
-    sparse-less few below is = rw is (without-less (s .small) (sparse-has few below))
+    pub by-kinds-less : {less : ℕ} → kinds ≤ 64 → k < kinds → less ≡ withoutKind rest k → less < rest
+    by-kinds-less few below is = rw is (without-less (s .small) (by-kinds-has few below))
 
-    pub sparse-more : {v less : ℕ} → kinds ≤ 64 → at + kinds ≤ length before → k < kinds → v ≡ cond (has? left k) near far
-        → less ≡ withoutKind rest k → Sparse before (set after (at + k) v) at kinds less
-    sparse-more {v} {less} few fits below v-is less-is =
+    pub by-kinds-more : {v less : ℕ} → kinds ≤ 64 → at + kinds ≤ length before → k < kinds → v ≡ cond (has? left k) near far
+        → less ≡ withoutKind rest k → StoredByKinds before (set after (at + k) v) at kinds less
+    by-kinds-more {v} {less} few fits below v-is less-is =
         record {
           long = length-set after (at + k) v ∙ s .long;
-          small = omega (arith, sparse-less few below less-is, s .small);
+          small = omega (arith, by-kinds-less few below less-is, s .small);
           part = λ j has. s .part j (has-without it j .0 (rw less-is at has) .0);
           cells = λ j kind lacks. cell j kind lacks (ℕ-discrete j k);
           others = λ i apart. getD-set-other after (at + k) i v 0 (apart k below) ∙ s .others i apart;
         }
       where
         it : Has rest k
-        it = sparse-has few below
+        it = by-kinds-has few below
 
         cell : (j : ℕ) → j < kinds → (Has less j → ⊥) → Dec (j ≡ k) → getD (set after (at + k) v) (at + j) 0 ≡ value j
         cell j kind lacks (yes e) =
@@ -112,11 +113,12 @@ module _ (first left near far : ℕ) where
             ∙ s .cells j kind (λ has. lacks (rw less-is (has-without it j .1 (has, other))))
 
     -- with no kind of the row left, and its last cell stored, the row stands
-    pub sparse-all : (mark : ℕ) → at + kinds ≤ length before → kinds ≤ k
+    pub by-kinds-all : (mark : ℕ) → at + kinds ≤ length before → kinds ≤ k
         → set after (at + kinds) mark ≡ sets before at (rowBy first left near far kinds mark)
     unfolding rowBy
-    sparse-all mark fits past =
-        rw whole (sets-one before at (valuesFrom value kinds 0) (at + kinds) mark (ap (λ (m : ℕ). at + m) (sym (length-values value kinds 0))))
+    by-kinds-all mark fits past =
+        rw whole
+        (sets-one before at (valuesFrom value kinds 0) (at + kinds) mark (ap (λ (m : ℕ). at + m) (sym (length-values value kinds 0))))
       where
         stored : List ℕ
         stored = sets before at (valuesFrom value kinds 0)

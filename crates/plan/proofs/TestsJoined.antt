@@ -6,7 +6,7 @@ use native.Mathlib.Decide.{ℕ-discrete}
 use native.Mathlib.Omega.{arith}
 use borrow.Author.Tests.{lt-ltb, ltb-true}
 use lib.Dec.{ltb}
-use Rattle.words.proofs.Tests.{fails}
+use Rattle.words.proofs.Tests.{never, fails}
 use Rattle.book.specs.Decode.{firstBad}
 use Rattle.book.proofs.FirstBad.{first-none}
 use Rattle.plan.proofs.Searches.{first-all}
@@ -17,13 +17,11 @@ pub record Joined (good : ℕ → Bool) (count : ℕ) (all : Bool) : Type 0 wher
   pub some : all ≡ false → (n : ℕ) × (n < count) × (good n ≡ false)
 
 module _ (good : ℕ → Bool) where
-  false-true : false ≡ true → ⊥
-  false-true is = let z : _≡_ {A = ℕ} 0 1 = cc in omega arith
-
   pub joined-none : Joined good 0 true
-  joined-none = record { every = λ is n below. absurd (omega arith); some = λ is. absurd (false-true (sym is)) }
+  joined-none = record { every = λ is n below. absurd (omega arith); some = λ is. never (sym is) }
 
-  pub joined-more : (count : ℕ) (all : Bool) {test : Bool} → Joined good count all → good count ≡ test → Joined good (count + 1) (all && test)
+  pub joined-more : (count : ℕ) (all : Bool) {test : Bool} → Joined good count all → good count ≡ test
+      → Joined good (count + 1) (all && test)
   joined-more count true {test} joined is =
       record {
         every =
@@ -33,7 +31,7 @@ module _ (good : ℕ → Bool) where
       }
   joined-more count false joined is =
       record {
-        every = λ holds. absurd (false-true holds);
+        every = λ holds. never holds;
         some = λ bad. let (n, below, fails) = joined .some refl in (n, omega arith, fails);
       }
 
@@ -41,4 +39,6 @@ module _ (good : ℕ → Bool) where
   joined-all last true joined = sym (lt-ltb last _ (omega (arith, first-all good (last + 1) (joined .every refl))))
   joined-all last false joined =
       let (n, below, bad) = joined .some refl in
-      sym (fails _ (λ past. false-true (sym bad ∙ first-none good (last + 1) (omega (arith, ltb-true last (firstBad good (last + 1) 0) past)) n below)))
+      sym
+      (fails _
+      (λ past. never (sym bad ∙ first-none good (last + 1) (omega (arith, ltb-true last (firstBad good (last + 1) 0) past)) n below)))
