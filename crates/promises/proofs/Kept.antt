@@ -27,15 +27,15 @@ use Rattle.compiler.proofs.Promise.{passed-passes, passes-exactly}
 use Rattle.compiler.proofs.ShutOut.{not-all-refused, not-all-passed, not-all-clear}
 use Rattle.reader.specs.declared.Reading.{Reading}
 use Rattle.reader.specs.Numbers.{NO-ROOM}
-use Rattle.reader.specs.Reads.{Reads, readOf}
+use Rattle.reader.specs.Reads.{Reads}
 use Rattle.reader.proofs.Answers.{reads-unique}
 use Rattle.meaning.specs.Meaning.{tree}
 use Rattle.meaning.proofs.Walks.{walks-take}
 use Rattle.worked.specs.Worked.{Each, Holds, table}
 use Rattle.worked.proofs.Checked.{worked}
-use Rattle.promises.specs.Promises.{CompileAnswers, ReadAnswers, PassesExactly, PlanByRules, Enough, ReadsAsMeant, FewRecords, wider}
+use Rattle.promises.specs.Promises.{CompileAnswers, ReadAnswers, PassesExactly, PlanByRules, Enough, ReadsAsMeant, FewRecords, OnBiggerBoards}
 use Rattle.promises.proofs.Answers.{compiled-answers, read-answers, by-rules}
-use Rattle.promises.proofs.More.{by-call, slots-more, room-more}
+use Rattle.promises.proofs.More.{by-call, bigger-boards}
 use Rattle.promises.proofs.Meant.{passed-reads, passed-reads-any, passed-records, passed-no-room}
 use Rattle.promises.proofs.Readers.{not-constant, not-nodding, not-nodding-trees}
 
@@ -146,14 +146,10 @@ module _ {bytes : List ℕ} {room : ℕ} {a : Compiled} {plan : List ℕ} (compi
         by-call (λ r t. r .number ≡ DONE → FewRecords (bookOf bytes .count) (length run) (r .records)) read
         (passed-records compiled is run (length held) (length space))
 
--- an answer other than DEEP is the same with more slots, and one other than NO ROOM with more tree room
-pub more-slots-same : (plan run : List ℕ) (slots more room : ℕ) → slots ≤ more → readOf plan run slots room .reading .number ≢ DEEP
-    → readOf plan run slots room ≡ readOf plan run more room
-more-slots-same plan run slots more room grows not-deep = slots-more plan run slots room more grows not-deep
-
-pub more-room-same : (plan run : List ℕ) (slots room more : ℕ) → room ≤ more → readOf plan run slots room .reading .number ≢ NO-ROOM
-    → readOf plan run slots more ≡ wider room more (readOf plan run slots room)
-more-room-same plan run slots room more grows roomy = room-more room more grows plan run slots roomy
+-- More never changes the answer, of every plan, forged ones too
+pub bigger-boards-same : {plan run held tree : List ℕ} {r : Reading} {held-after tree-after : List ℕ}
+    → Reads plan run held tree r held-after tree-after → OnBiggerBoards plan run held tree r tree-after
+bigger-boards-same read = bigger-boards read
 
 -- Demand 2 shuts out a compiler that refuses all books, one that passes all, and one that writes no plan
 module _ (answers : List ℕ → ℕ → Compiled) (plans : List ℕ → ℕ → List ℕ)

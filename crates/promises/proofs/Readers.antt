@@ -17,8 +17,8 @@ use Rattle.reader.specs.Reads.{Outcome, outcome, Reads, readOf}
 use Rattle.worked.specs.Worked
 use Rattle.worked.specs.Worked.{Each, no-more, and, rinse, table}
 use Rattle.worked.proofs.Checked.{worked}
-use Rattle.promises.specs.Promises.{Enough, wider}
-use Rattle.promises.proofs.More.{slots-more, room-more}
+use Rattle.promises.specs.Promises.{Enough}
+use Rattle.promises.proofs.More.{wider, slots-more, room-more}
 
 first-of : {A : Type 0} {Of : A → Type 0} {x : A} {xs : List A} → Each Of (x ∷ xs) → Of x
 first-of (and here later) = here

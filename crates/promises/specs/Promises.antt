@@ -11,7 +11,7 @@ use Rattle.book.specs.Book.{Book}
 use Rattle.book.specs.Form.{DONE, formOf, bookOf}
 use Rattle.grammar.specs.Passing.{Fruitful, NoConflict}
 use Rattle.grammar.specs.Derivations.{Lawful}
-use Rattle.running.specs.Running.{DEEP, UNKNOWN, UNEXPECTED, END, withSlots, accepted, reading}
+use Rattle.running.specs.Running.{DEEP, UNKNOWN, UNEXPECTED, END, RUNAWAY, withSlots, accepted, reading}
 use Rattle.running.specs.Cells.{Marks, Marked, cellOf}
 use Rattle.plan.specs.Form.{cellAt, planCount, planOf, planJudged}
 use Rattle.writer.specs.Bytes.{planBytes}
@@ -19,7 +19,7 @@ use Rattle.compiler.specs.declared.Compiled.{Compiled}
 use Rattle.compiler.specs.Compiles.{sizeOf}
 use Rattle.reader.specs.declared.Reading.{Reading}
 use Rattle.reader.specs.Numbers.{NO-ROOM, answered}
-use Rattle.reader.specs.Reads.{Outcome, outcome}
+use Rattle.reader.specs.Reads.{Reads}
 use Rattle.meaning.specs.Meaning.{tree, Refuses, Ends}
 
 -- Demand 1, compiling: the answer is one of 0 to 7, a plan has at most 36,376 bytes, and a refusal leaves the whole plan buffer zero
@@ -91,6 +91,21 @@ pub record FewRecords (count events records : ℕ) : Type 0 where
   pub some-events : 0 < events → records ≤ (2 * count - 1) * events
   pub no-events : events ≡ 0 → records ≡ 1
 
--- an outcome with more tree room, filled with zeros
-abbrev pub wider : ℕ → ℕ → Outcome → Outcome
-wider room more o = outcome (o .reading) (o .tree ++ zeros (more - room))
+-- More never changes the answer: what a reading's answer and tree come to on a board with at least as many slots and as much tree room
+pub record OnBiggerBoards (plan run held tree : List ℕ) (r : Reading) (after : List ℕ) : Type 0 where
+  -- an answer other than DEEP and NO ROOM is the same, the tree filled up with zeros
+  pub same : (held′ tree′ : List ℕ) → length held ≤ length held′ → length tree ≤ length tree′ → r .number ≢ DEEP → r .number ≢ NO-ROOM
+      → Reads plan run held′ tree′ r (zeros (length held′)) (after ++ zeros (length tree′ - length tree))
+  -- NO ROOM is NO ROOM with the same count while there are more records than room, and then the accepted run with that many records
+  pub no-room : (held′ tree′ : List ℕ) → length held ≤ length held′ → r .number ≡ NO-ROOM → length tree′ < r .records
+      → Reads plan run held′ tree′ r (zeros (length held′)) (zeros (length tree′))
+  pub room : (held′ tree′ : List ℕ) → length held ≤ length held′ → r .number ≡ NO-ROOM → r .records ≤ length tree′
+      → (records : List ℕ) × (length records ≡ r .records)
+      × Reads plan run held′ tree′ (answered DONE (length run) (r .records) 0) (zeros (length held′)) (records ++ zeros (length tree′ - r .records))
+  -- a refusal of an event, 12, 13 or RUNAWAY, is the same whatever events follow, up to 65,535 in all
+  pub longer : (more held′ tree′ : List ℕ) → length (run ++ more) ≤ 65535 → length held ≤ length held′
+      → (r .number ≡ UNKNOWN) ⊎ ((r .number ≡ UNEXPECTED) ⊎ (r .number ≡ RUNAWAY))
+      → Reads plan (run ++ more) held′ tree′ r (zeros (length held′)) (zeros (length tree′))
+  -- and DEEP with the same slots
+  pub deep : (more tree′ : List ℕ) → length (run ++ more) ≤ 65535 → r .number ≡ DEEP
+      → Reads plan (run ++ more) held tree′ r (zeros (length held)) (zeros (length tree′))

@@ -52,7 +52,7 @@ module _ (p : Plan) (free : ℕ → Bool) (run : List ℕ) (room : ℕ) where
           told-refused number place (cond (tells number) (expected p held) 0) (omega arith) (omega arith)
 
 -- a plan that is not judged done is 8 or 9
-judged-bad : (plan : List ℕ) → (planJudged plan .number ≡ DONE → ⊥) → (8 ≤ planJudged plan .number) × (planJudged plan .number ≤ 15)
+pub judged-bad : (plan : List ℕ) → (planJudged plan .number ≡ DONE → ⊥) → (8 ≤ planJudged plan .number) × (planJudged plan .number ≤ 15)
 unfolding planJudged cellsJudged
 judged-bad plan =
     let count = planCount plan in

@@ -50,7 +50,7 @@ module _ {count : ℕ} {l r : ℕ} (left-below : l < count) (right-below : r < c
   visit-same take-event free same = refl
   visit-same go-left free same = same l held left-below below
   visit-same hold-right free same =
-      ap (λ (s : Step). cond (free (length held)) s (refused DEEP)) (same l (r ∷ held) left-below (one-held right-below below))
+      rw (same l (r ∷ held) left-below (one-held right-below below))
   visit-same skip-left free same = ap (noted (emptied l)) (same r held right-below below)
   visit-same go-right free same = same r held right-below below
 
@@ -111,7 +111,7 @@ module _ {p q : Plan} (agree : Agree p q) (free : ℕ → Bool) where
   unfolding finish
   finish-same at before none-held = refl
   finish-same at before (one-held {n} small below) =
-      ap₂ (λ (b : Bool) (a : Answer). cond b (logged (emptied n ∷ []) a) (stopped END at before)) (agree .null n small) (finish-same at before below)
+      rw (agree .null n small, finish-same at before below)
 
   pub reads-agree : (run : List ℕ) (at : ℕ) (held : List ℕ) → Below (p .count) held → reads p free at held run ≡ reads q free at held run
   unfolding reads

@@ -20,15 +20,15 @@ unfolding logged
 carried-logged records carried-accepted = carried-accepted
 carried-logged records (carried-stopped below) = carried-stopped below
 
+carried-cond : {count : ℕ} (b : Bool) {a c : Answer} → Carried count a → Carried count c → Carried count (cond b a c)
+carried-cond true a c = a
+carried-cond false a c = c
+
 module _ {p q : Plan} (agree : Agree p q) where
   finish-carried : (at : ℕ) {before : List ℕ} → Below (p .count) before → (held : List ℕ) → Carried (p .count) (finish p at before held)
   unfolding finish
   finish-carried at below [] = carried-accepted
-  finish-carried at {before} below (n ∷ held) = chosen (p .null n) (finish-carried at below held)
-    where
-      chosen : (b : Bool) {a : Answer} → Carried (p .count) a → Carried (p .count) (cond b (logged (emptied n ∷ []) a) (stopped END at before))
-      chosen true carried = carried-logged _ carried
-      chosen false carried = carried-stopped below
+  finish-carried at below (n ∷ held) = carried-cond (p .null n) (carried-logged _ (finish-carried at below held)) (carried-stopped below)
 
   onward-carried : {s : Step} → Kept (p .count) s → (rest : List ℕ → Answer)
       → ((h : List ℕ) → Below (p .count) h → Carried (p .count) (rest h)) → (at : ℕ) {before : List ℕ} → Below (p .count) before
