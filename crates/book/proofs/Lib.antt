@@ -1,3 +1,4 @@
+pub mod AsBefore
 pub mod Decoded
 pub mod Encoded
 pub mod FirstBad
