@@ -1,4 +1,5 @@
--- What compiling comes to, by document 01's table of answers: what judging says, and where a book passes, 7 or the plan.
+-- What compiling comes to, by document 01's table of answers: what judging says, and where a book passes, 7 or the
+-- plan.
 use Prim.Native.Nat.{ℕ, _-_, _≤_, _<_}
 use mathlib.Core.Logic.{_≢_}
 use mathlib.Core.List.{List, _++_}

@@ -127,8 +127,8 @@ suffices buffer size out plan held tree =
     leb inputRoom buffer && leb size buffer && leb outRoom out && eqb plan planRoom && eqb held slotRoom
     && eqb tree treeRoom
 
--- what `list` does: where the buffers suffice, what the program writes for every input whose first bytes were read; else
--- it writes nothing
+-- what `list` does: where the buffers suffice, what the program writes for every input whose first bytes were read;
+-- else it writes nothing
 pub record Answers (buffer : List ℕ) (size : ℕ) (out plan held tree after : List ℕ) (count : ℕ) : Type 0 where
   pub listed : suffices (length buffer) size (length out) (length plan) (length held) (length tree) ≡ true
       → (input : List ℕ)

@@ -31,8 +31,8 @@ pub data Each : List Case → Type 0 where
   no-more : Each []
   and : {one : Case} {others : List Case} → Holds one → Each others → Each (one ∷ others)
 
--- no input, half a length, lengths of 3,090 and 3,091 without their books; books that are refused; the rinse book's worked
--- runs; more records than 8,192; all 64 kinds expected
+-- no input, half a length, lengths of 3,090 and 3,091 without their books; books that are refused; the rinse book's
+-- worked runs; more records than 8,192; all 64 kinds expected
 unfoldable pub table : List Case
 table =
     given [] "input too short\n"

@@ -7,10 +7,12 @@ use lib.Dec.{ltb}
 use lib.ListN.{length, take, getD}
 use Rattle.book.specs.Book.{Book}
 use Rattle.book.specs.declared.Node.{Node}
-use Rattle.grammar.specs.Derivations.{Derives, d-empty, d-token, d-left, d-right, d-then, d-tagged, d-ref, Lawful, Begins}
+use Rattle.grammar.specs.Derivations.{Derives, d-empty, d-token, d-left, d-right, d-then, d-tagged, d-ref}
+use Rattle.grammar.specs.Derivations.{Lawful, Begins}
 use Rattle.running.specs.Running.{UNKNOWN, UNEXPECTED, END, Answer, emptied, accepted, stopped}
 
--- the records of a part, by the run it takes: a single empty record if it takes no event, else its node's and then those of its parts
+-- the records of a part, by the run it takes: a single empty record if it takes no event, else its node's and then
+-- those of its parts
 unfoldable pub partRecords : ℕ → List ℕ → List ℕ → List ℕ
 partRecords n [] parts = emptied n ∷ []
 partRecords n (k ∷ xs) parts = n ∷ parts
@@ -26,7 +28,8 @@ module _ {node : ℕ → Node} where
   parts (d-tagged {l} {xs = xs} d) = partRecords l xs (parts d)
   parts (d-ref {l} {xs = xs} d) = partRecords l xs (parts d)
 
-  -- the records of a derivation from a node of this number: top-down, left to right, a part that takes no event a single empty record
+  -- the records of a derivation from a node of this number: top-down, left to right, a part that takes no event a
+  -- single empty record
   unfoldable pub tree : {top : Node} {xs : List ℕ} → ℕ → Derives node top xs → List ℕ
   tree {xs = xs} n d = partRecords n xs (parts d)
 
@@ -51,11 +54,12 @@ pub record Ends (b : Book) (xs : List ℕ) (i : ℕ) : Type 0 where
 abbrev pub refusalOf : ℕ → ℕ → ℕ
 refusalOf kinds k = cond (ltb k kinds) UNEXPECTED UNKNOWN
 
--- what an answer to a run means: accepted, with the tree of a derivation; refused at an event, by its kind; at an end too soon; and no
--- other. The parts held that a refusal carries only serve `expected`
+-- what an answer to a run means: accepted, with the tree of a derivation; refused at an event, by its kind; at an end
+-- too soon; and no other. The parts held that a refusal carries only serve `expected`
 pub data Means (b : Book) (xs : List ℕ) : Answer → Type 0 where
   means-accepted : {records : List ℕ} → Accepts b xs records → Means b xs (accepted records)
-  means-refused : {number i : ℕ} {held : List ℕ} → Refuses b xs i → number ≡ refusalOf (b .kinds) (getD xs i 0) → Means b xs (stopped number i held)
+  means-refused : {number i : ℕ} {held : List ℕ} → Refuses b xs i → number ≡ refusalOf (b .kinds) (getD xs i 0)
+      → Means b xs (stopped number i held)
   means-end : {i : ℕ} {held : List ℕ} → Ends b xs i → Means b xs (stopped END i held)
 
 -- an answer without the parts held that a refusal carries

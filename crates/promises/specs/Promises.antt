@@ -1,5 +1,6 @@
--- The promises: the three demands and the uniqueness of every answer, in the documents' words. What is said here of `Compiles` and
--- `Reads` is said of the calls: the contract of `compile` is `Compiles` of its bytes, and that of `read` is `Reads` of its own.
+-- The promises: the three demands and the uniqueness of every answer, in the documents' words. What is said here of
+-- `Compiles` and `Reads` is said of the calls: the contract of `compile` is `Compiles` of its bytes, and that of
+-- `read` is `Reads` of its own.
 use Prim.Native.Nat.{ℕ, _+_, _*_, _-_, _≤_, _<_}
 use mathlib.Core.Path.{_≡_}
 use mathlib.Core.Bool.{cond}
@@ -22,32 +23,36 @@ use Rattle.reader.specs.Numbers.{NO-ROOM, answered}
 use Rattle.reader.specs.Reads.{Reads}
 use Rattle.meaning.specs.Meaning.{tree, Refuses, Ends}
 
--- Demand 1, compiling: the answer is one of 0 to 7, a plan has at most 36,376 bytes, and a refusal leaves the whole plan buffer zero
+-- Demand 1, compiling: the answer is one of 0 to 7, a plan has at most 36,376 bytes, and a refusal leaves the whole
+-- plan buffer zero
 pub record CompileAnswers (room : ℕ) (a : Compiled) (plan : List ℕ) : Type 0 where
   pub listed : a .number ≤ 7
   pub most : a .size ≤ 36376
   pub whole : length plan ≡ room
   pub refused-zero : a .number ≢ DONE → plan ≡ zeros room
 
--- Demand 1, reading, for all bytes, forged plans included: the answer is 0 or one of 8 to 16, and a refusal leaves the whole tree buffer
--- zero; the count of records is that of the list that running the plan gives, at most (2N − 2) times the events, and one; no slot is DEEP
+-- Demand 1, reading, for all bytes, forged plans included: the answer is 0 or one of 8 to 16, and a refusal leaves
+-- the whole tree buffer zero; the count of records is that of the list that running the plan gives, at most (2N − 2)
+-- times the events, and one; no slot is DEEP
 pub record ReadAnswers (plan run : List ℕ) (slots room : ℕ) (r : Reading) (after : List ℕ) : Type 0 where
   pub listed : (r .number ≡ DONE) ⊎ ((8 ≤ r .number) × (r .number ≤ 16))
   pub whole : length after ≡ room
   pub refused-zero : r .number ≢ DONE → after ≡ zeros room
   pub counted : (r .number ≡ DONE) ⊎ (r .number ≡ NO-ROOM)
-      → (records : List ℕ) × (reading (planOf plan) (withSlots slots) run ≡ accepted records) × (r .records ≡ length records)
+      → (records : List ℕ) × (reading (planOf plan) (withSlots slots) run ≡ accepted records)
+      × (r .records ≡ length records)
   pub few-records : r .records ≤ (2 * planCount plan - 2) * length run + 1
   pub no-slot : slots ≡ 0 → planJudged plan .number ≡ DONE → length run ≤ 65535 → r ≡ answered DEEP 0 0 0
 
--- Demand 2: given plan room enough, a well-formed book passes exactly when its start can produce some run and no node reachable from the
--- start has a conflict
+-- Demand 2: given plan room enough, a well-formed book passes exactly when its start can produce some run and no node
+-- reachable from the start has a conflict
 abbrev pub PassesExactly : List ℕ → ℕ → Compiled → Type 0
 PassesExactly bytes room a =
     formOf bytes .number ≡ DONE → sizeOf (bookOf bytes) ≤ room
     → (a .number ≡ DONE) ↔ (Fruitful (bookOf bytes) × NoConflict (bookOf bytes))
 
--- Demand 2: the plan of a passed book is, cell by cell, the one those rules give: by the marks that are the facts, which are these only
+-- Demand 2: the plan of a passed book is, cell by cell, the one those rules give: by the marks that are the facts,
+-- which are these only
 pub record PlanByRules (bytes : List ℕ) (room : ℕ) (plan : List ℕ) : Type 0 where
   pub marks : Marks
   pub marked : Marked (bookOf bytes .node) marks
@@ -68,7 +73,8 @@ roomEnough count events = (2 * count - 2) * events + 1
 -- slots enough and tree room enough for a run by the plan of a book
 abbrev pub Enough : List ℕ → List ℕ → List ℕ → List ℕ → Type 0
 Enough bytes run held tree =
-    (slotsEnough (bookOf bytes .count) (length run) ≤ length held) × (roomEnough (bookOf bytes .count) (length run) ≤ length tree)
+    (slotsEnough (bookOf bytes .count) (length run) ≤ length held)
+    × (roomEnough (bookOf bytes .count) (length run) ≤ length tree)
 
 -- Demand 3: a reading of a run, with what it leaves of a tree of so much room, answers as the book means
 pub record ReadsAsMeant (b : Book) (run : List ℕ) (room : ℕ) (r : Reading) (after : List ℕ) : Type 0 where
@@ -77,7 +83,8 @@ pub record ReadsAsMeant (b : Book) (run : List ℕ) (room : ℕ) (r : Reading) (
   -- and writes the only derivation there is, each part that takes no event as one empty record
   pub answers : (d : Lawful b run) → r ≡ answered DONE (length run) (length (tree (b .start) d)) 0
   pub writes : (d : Lawful b run) → after ≡ tree (b .start) d ++ zeros (room - length (tree (b .start) d))
-  -- otherwise it names the earliest event at which no lawful run still agrees: 12 exactly if the event's kind is not below K, else 13
+  -- otherwise it names the earliest event at which no lawful run still agrees: 12 exactly if the event's kind is not
+  -- below K, else 13
   pub unknown : (i : ℕ) → ((r .number ≡ UNKNOWN) × (r .place ≡ i)) ↔ (Refuses b run i × (b .kinds ≤ getD run i 0))
   pub unexpected : (i : ℕ) → ((r .number ≡ UNEXPECTED) × (r .place ≡ i)) ↔ (Refuses b run i × (getD run i 0 < b .kinds))
   -- or the end where more was due
@@ -91,17 +98,21 @@ pub record FewRecords (count events records : ℕ) : Type 0 where
   pub some-events : 0 < events → records ≤ (2 * count - 1) * events
   pub no-events : events ≡ 0 → records ≡ 1
 
--- More never changes the answer: what a reading's answer and tree come to on a board with at least as many slots and as much tree room
+-- More never changes the answer: what a reading's answer and tree come to on a board with at least as many slots and
+-- as much tree room
 pub record OnBiggerBoards (plan run held tree : List ℕ) (r : Reading) (after : List ℕ) : Type 0 where
   -- an answer other than DEEP and NO ROOM is the same, the tree filled up with zeros
-  pub same : (held′ tree′ : List ℕ) → length held ≤ length held′ → length tree ≤ length tree′ → r .number ≢ DEEP → r .number ≢ NO-ROOM
+  pub same : (held′ tree′ : List ℕ) → length held ≤ length held′ → length tree ≤ length tree′
+      → r .number ≢ DEEP → r .number ≢ NO-ROOM
       → Reads plan run held′ tree′ r (zeros (length held′)) (after ++ zeros (length tree′ - length tree))
-  -- NO ROOM is NO ROOM with the same count while there are more records than room, and then the accepted run with that many records
+  -- NO ROOM is NO ROOM with the same count while there are more records than room, and then the accepted run with
+  -- that many records
   pub no-room : (held′ tree′ : List ℕ) → length held ≤ length held′ → r .number ≡ NO-ROOM → length tree′ < r .records
       → Reads plan run held′ tree′ r (zeros (length held′)) (zeros (length tree′))
   pub room : (held′ tree′ : List ℕ) → length held ≤ length held′ → r .number ≡ NO-ROOM → r .records ≤ length tree′
       → (records : List ℕ) × (length records ≡ r .records)
-      × Reads plan run held′ tree′ (answered DONE (length run) (r .records) 0) (zeros (length held′)) (records ++ zeros (length tree′ - r .records))
+      × Reads plan run held′ tree′ (answered DONE (length run) (r .records) 0) (zeros (length held′))
+      (records ++ zeros (length tree′ - r .records))
   -- a refusal of an event, 12, 13 or RUNAWAY, is the same whatever events follow, up to 65,535 in all
   pub longer : (more held′ tree′ : List ℕ) → length (run ++ more) ≤ 65535 → length held ≤ length held′
       → (r .number ≡ UNKNOWN) ⊎ ((r .number ≡ UNEXPECTED) ⊎ (r .number ≡ RUNAWAY))

@@ -19,8 +19,8 @@ pub record Marked (node : ℕ → Node) (marks : Marks) : Type 0 where
   pub first-is : (n k : ℕ) → (marks .first n k ≡ true) ↔ First node (node n) k
   pub null-is : (n : ℕ) → (marks .null n ≡ true) ↔ Nullable node (node n)
 
--- the cell of a node's row for a kind: 0 if the kind is not in FIRST(node); otherwise token 1; either 2 if the kind is in
--- FIRST(left), else 5; then 4 if left is nullable and the kind is not in FIRST(left), else 3; tagged and ref 2
+-- the cell of a node's row for a kind: 0 if the kind is not in FIRST(node); otherwise token 1; either 2 if the kind
+-- is in FIRST(left), else 5; then 4 if left is nullable and the kind is not in FIRST(left), else 3; tagged and ref 2
 unfoldable pub cellOf : Marks → ℕ → ℕ → Node → ℕ
 cellOf marks k n Fail = 0
 cellOf marks k n Empty = 0

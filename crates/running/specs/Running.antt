@@ -1,5 +1,5 @@
--- Running a plan, sentence by sentence as document 01 has it, for any cells, forged ones too. The list of held parts has the part
--- held last in front.
+-- Running a plan, sentence by sentence as document 01 has it, for any cells, forged ones too. The list of held parts
+-- has the part held last in front.
 use Prim.Native.Nat.{ℕ, zero, suc, _+_, _^_}
 use mathlib.Core.Bool.{Bool, true, _&&_, cond}
 use mathlib.Core.List.{List, [], _∷_, _++_}
@@ -22,8 +22,8 @@ END = 14
 abbrev pub RUNAWAY : ℕ
 RUNAWAY = 15
 
--- what a reading goes by: how many nodes and kinds there are, the start, each node's left and right, the cell of a node for a kind,
--- and whether a node is nullable by its row
+-- what a reading goes by: how many nodes and kinds there are, the start, each node's left and right, the cell of a
+-- node for a kind, and whether a node is nullable by its row
 pub record Plan : Type 0 where
   pub count : ℕ
   pub kinds : ℕ
@@ -40,7 +40,8 @@ withSlots slots parts = ltb parts slots
 abbrev pub unlimited : ℕ → Bool
 unlimited parts = true
 
--- what a cell says: refuse the event, take it, go left, hold right and go left, write an empty record for left and go right, go right
+-- what a cell says: refuse the event, take it, go left, hold right and go left, write an empty record for left and go
+-- right, go right
 pub data Move : Type 0 where
   refuse : Move
   take-event : Move
@@ -57,7 +58,8 @@ moveOf cell = getD (refuse ∷ take-event ∷ go-left ∷ hold-right ∷ skip-le
 abbrev pub emptied : ℕ → ℕ
 emptied n = n + 32768
 
--- what one event comes to: taken, with the parts then held and the records written; or refused, with the refusal's number
+-- what one event comes to: taken, with the parts then held and the records written; or refused, with the refusal's
+-- number
 pub data Step : Type 0 where
   taken : List ℕ → List ℕ → Step
   refused : ℕ → Step
@@ -67,7 +69,8 @@ unfoldable pub noted : ℕ → Step → Step
 noted r (taken held records) = taken held (r ∷ records)
 noted r (refused number) = refused number
 
--- what a move does at a node, given how the walk goes on from a node with parts held, whether a slot is free, and left and right
+-- what a move does at a node, given how the walk goes on from a node with parts held, whether a slot is free, and
+-- left and right
 unfoldable pub visit : Move → (ℕ → List ℕ → Step) → (ℕ → Bool) → ℕ → ℕ → List ℕ → Step
 visit refuse go free l r held = refused UNEXPECTED
 visit take-event go free l r held = taken held []
@@ -76,7 +79,8 @@ visit hold-right go free l r held = cond (free (length held)) (go l (r ∷ held)
 visit skip-left go free l r held = noted (emptied l) (go r held)
 visit go-right go free l r held = go r held
 
--- a part taken off, by its cell and whether it is nullable: its walk where the cell is not 0, else it is passed or the event refused
+-- a part taken off, by its cell and whether it is nullable: its walk where the cell is not 0, else it is passed or
+-- the event refused
 unfoldable pub takeOff : ℕ → Bool → Step → Step → Step
 takeOff cell null walked passed = cond (eqb cell 0) (cond null passed (refused UNEXPECTED)) walked
 
@@ -99,7 +103,8 @@ module _ (p : Plan) where
   -- the end: all held parts are taken off in turn; each must be nullable by its row and writes one empty record
   unfoldable pub finish : ℕ → List ℕ → List ℕ → Answer
   finish at before [] = accepted []
-  finish at before (n ∷ held) = cond (p .null n) (logged (emptied n ∷ []) (finish at before held)) (stopped END at before)
+  finish at before (n ∷ held) =
+      cond (p .null n) (logged (emptied n ∷ []) (finish at before held)) (stopped END at before)
 
   -- the kinds below a number whose cell in a node's row is not 0, as a sum of powers of two
   unfoldable pub rowFirst : ℕ → ℕ → ℕ
@@ -114,7 +119,8 @@ module _ (p : Plan) where
   -- whether a slot is free where so many parts are held
   module _ (free : ℕ → Bool) where
     module _ (k : ℕ) where
-      -- the walk from a node, with so many visits left: each visited node writes a record, then its cell says how to go on
+      -- the walk from a node, with so many visits left: each visited node writes a record, then its cell says how to
+      -- go on
       unfoldable pub walk : ℕ → ℕ → List ℕ → Step
       walk zero n held = refused RUNAWAY
       walk (suc left) n held =
