@@ -8,7 +8,7 @@ enum { FAIL, EMPTY, TOKEN, EITHER, THEN, TAGGED, REF };
 
 enum {
     DONE, LENGTH, CONTENTS, SETTINGS, NODE, BARREN, CONFLICT, PLAN_ROOM, PLAN_FORM,
-    CELL, LONG, DEEP, UNKNOWN, UNEXPECTED, END, RUNAWAY, NO_ROOM
+    CELL, LONG, DEEP, UNKNOWN, UNEXPECTED, END, RUNAWAY, NO_ROOM, UNUSED = 22
 };
 
 enum { REFUSE, TAKE, GO_LEFT, HOLD_RIGHT, SKIP_LEFT, GO_RIGHT };
@@ -302,13 +302,16 @@ reference_compiled reference_compile(const uint8_t *bytes, size_t len, uint8_t *
     if (formed.number != DONE)
         return (reference_compiled){formed.number, formed.place, 0, 0};
     book b = book_at(bytes + BOOK_SETTINGS, (len - BOOK_NODES) / NODE_BYTES);
+    find_reachable(&b, reachable);
+    for (size_t n = 0; n < b.count; n++)
+        if (!reachable[n])
+            return (reference_compiled){UNUSED, (uint32_t)n, 0, 0};
     find_facts(&b, known);
     if (!known[b.start].productive)
         return (reference_compiled){BARREN, (uint32_t)b.start, 0, 0};
-    find_reachable(&b, reachable);
     for (size_t n = 0; n < b.count; n++) {
         uint32_t kind;
-        if (reachable[n] && conflict(node_at(&b, n), known, &kind))
+        if (conflict(node_at(&b, n), known, &kind))
             return (reference_compiled){CONFLICT, (uint32_t)n, kind, 0};
     }
     size_t size = plan_size(&b);

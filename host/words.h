@@ -25,8 +25,9 @@ static inline const char *words(uint32_t number)
         "END: the run ends too early",
         "RUNAWAY: the plan walks in a circle",
         "NO ROOM: the tree buffer is shorter than the tree",
+        [22] = "UNUSED: the start does not reach a node",
     };
-    return number < sizeof said / sizeof *said ? said[number] : "no such answer";
+    return number < sizeof said / sizeof *said && said[number] ? said[number] : "no such answer";
 }
 
 #endif

@@ -45,7 +45,7 @@ enum {
     DRUMBOOK_SETTINGS = 3,    /* the number of kinds is not 1 to 64, or the start is not below N */
     DRUMBOOK_NODE = 4,        /* a type or field against the type table; place: the first such node */
     DRUMBOOK_BARREN = 5,      /* the start can produce no run; place: the start */
-    DRUMBOOK_CONFLICT = 6,    /* a reachable conflict; place: the lowest such node; see kind */
+    DRUMBOOK_CONFLICT = 6,    /* a node has a conflict; place: the lowest such node; see kind */
     DRUMBOOK_PLAN_ROOM = 7,   /* the plan buffer is shorter than the plan; see size */
     DRUMBOOK_PLAN_FORM = 8,   /* the plan's length, contents, settings or nodes are wrong */
     DRUMBOOK_CELL = 9,        /* a cell that its node's type never has, or a last cell above 1; place: the first such
@@ -56,7 +56,8 @@ enum {
     DRUMBOOK_UNEXPECTED = 13, /* the event is refused: by a compiled plan, no lawful run goes on so; place: the event */
     DRUMBOOK_END = 14,        /* the run ends where more was due; place: its length */
     DRUMBOOK_RUNAWAY = 15,    /* N nodes visited at one event and another due, by forged plans only; place: the event */
-    DRUMBOOK_NO_ROOM = 16     /* accepted, but more records than the tree buffer holds; see records */
+    DRUMBOOK_NO_ROOM = 16,    /* accepted, but more records than the tree buffer holds; see records */
+    DRUMBOOK_UNUSED = 22      /* the start does not reach every node; place: the lowest unreachable node */
 };
 
 enum {
@@ -77,8 +78,8 @@ drumbook_formed drumbook_form(const uint8_t *book, size_t book_len);
 
 /* What compiling answers. */
 typedef struct {
-    uint32_t number; /* DRUMBOOK_DONE, or the first of 1 to 7 that holds against the book */
-    uint32_t place;  /* the node that 4, 5 and 6 name, otherwise 0 */
+    uint32_t number; /* DRUMBOOK_DONE, or the first of 1 to 4, 22, 5, 6 and 7, in this order, that holds */
+    uint32_t place;  /* the node that 4, 22, 5 and 6 name, otherwise 0 */
     uint32_t kind;   /* with 6 the lowest kind shared, or DRUMBOOK_BOTH_NULLABLE, which goes first; otherwise 0 */
     uint32_t size;   /* with 0 and 7 the plan's size in bytes, otherwise 0 */
 } drumbook_compiled;

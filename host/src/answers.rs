@@ -17,6 +17,7 @@ pub const UNEXPECTED: u32 = 13;
 pub const END: u32 = 14;
 pub const RUNAWAY: u32 = 15;
 pub const NO_ROOM: u32 = 16;
+pub const UNUSED: u32 = 22;
 
 /// Stands beside the answer numbers for the listing program's message that its input is too long.
 pub const INPUT_TOO_LONG: u32 = 62;
@@ -99,7 +100,15 @@ impl Tally {
     pub fn expect(&self, numbers: &[u32], least: usize) {
         for &number in numbers {
             let given = self.counts[number as usize];
-            assert!(given >= least, "answer {number} was given {given} times");
+            assert!(
+                given >= least,
+                "answer {number} was given {given} times; all: {:?}",
+                self.counts
+                    .iter()
+                    .enumerate()
+                    .filter(|count| *count.1 > 0)
+                    .collect::<Vec<_>>()
+            );
         }
     }
 }

@@ -1,4 +1,4 @@
-//! The compiler, numbers 0 to 7: the rules of figure 5 as least fixpoints over plain sets.
+//! The compiler, numbers 0 to 7 and 22: the rules of figure 5 as least fixpoints over plain sets.
 
 use crate::answers::*;
 use crate::book::*;
@@ -26,6 +26,9 @@ pub fn compile(book: &[u8], plan: &mut [u8]) -> Compiled {
         return compiled(formed.number, formed.place, 0, 0);
     }
     let book = Book::of(&book[BOOK_SETTINGS..]);
+    if let Some(place) = reachable(&book).iter().position(|&reached| !reached) {
+        return compiled(UNUSED, place as u32, 0, 0);
+    }
     let facts = facts(&book);
     if !facts.productive[usize::from(book.start)] {
         return compiled(BARREN, u32::from(book.start), 0, 0);
@@ -171,13 +174,10 @@ fn given(holds: bool, kinds: Kinds) -> Kinds {
     }
 }
 
-/// The lowest reachable node with a conflict, and the conflict's kind.
+/// The lowest node with a conflict, and the conflict's kind.
 fn lowest_conflict(book: &Book, facts: &Facts) -> Option<(u32, u32)> {
-    reachable(book)
-        .iter()
-        .enumerate()
-        .filter(|&(_, &reached)| reached)
-        .find_map(|(own, _)| Some((own as u32, conflict(&book.nodes[own], facts)?)))
+    let mut nodes = book.nodes.iter().enumerate();
+    nodes.find_map(|(own, node)| Some((own as u32, conflict(node, facts)?)))
 }
 
 /// Which nodes are reachable.

@@ -45,6 +45,7 @@ mod tests {
         for (number, name) in names.split(' ').enumerate() {
             assert_eq!(named(name), number as u32, "{name}");
         }
+        assert_eq!(named("UNUSED"), UNUSED);
         assert_eq!(named("BOTH_NULLABLE"), BOTH_NULLABLE);
         assert_eq!(named("EMPTY_RECORD"), u32::from(EMPTY_RECORD));
         assert_eq!(named("LARGEST_BOOK"), book::LONGEST_BOOK as u32);
@@ -139,10 +140,10 @@ mod tests {
         for (count, kinds) in [(1, 1), (2, 1), (3, 1), (1, 2), (2, 2), (3, 2)] {
             check.small_books(count, kinds, &all_runs(kinds as u8 + 1, 4));
         }
-        check.compiled.expect(&[DONE, BARREN, CONFLICT], 100);
         check
-            .read_as
-            .expect(&[DONE, UNKNOWN, UNEXPECTED, END], 1_000);
+            .compiled
+            .expect(&[DONE, BARREN, CONFLICT, UNUSED], 100);
+        check.read_as.expect(&[DONE, UNKNOWN, UNEXPECTED, END], 200);
     }
 
     /// Random books that pass: compiler and reader against derivations.
@@ -150,7 +151,9 @@ mod tests {
     fn random_books_by_derivations() {
         let mut check = Check::of(compile, read);
         check.random_books(1, 5_000);
-        check.compiled.expect(&[DONE, BARREN, CONFLICT], 500);
+        check
+            .compiled
+            .expect(&[DONE, BARREN, CONFLICT, UNUSED], 500);
         check
             .read_as
             .expect(&[DONE, UNKNOWN, UNEXPECTED, END], 5_000);

@@ -4,7 +4,7 @@ use crate::answers::*;
 use crate::book::Book;
 use crate::books::random::Random;
 use crate::books::runs::{any_run, Heights};
-use crate::books::shapes::little_book;
+use crate::books::shapes::{little_book, without_unused};
 use crate::books::small::all_books;
 use crate::calls::{Compile, Read};
 use crate::recognise::{Meaning, Table};
@@ -73,13 +73,18 @@ impl Check {
         }
     }
 
-    /// The plan of a book that passes; a book is barren just when its start derives nothing.
+    /// The plan of a book that passes; a book has an unused node just when it is another without it, and of the others a
+    /// book is barren just when its start derives nothing.
     fn plan(&mut self, book: &Book) -> Option<Vec<u8>> {
         let mut plan = vec![0; PLAN_BYTES];
         let answer = (self.compile)(&book.bytes(), &mut plan);
         self.compiled.count(answer.number);
-        let derives = Table::of(book, &[]).begins_lawful();
-        assert_eq!(answer.number == BARREN, !derives, "of {book:?}");
+        let unused = without_unused(book) != *book;
+        assert_eq!(answer.number == UNUSED, unused, "of {book:?}");
+        if !unused {
+            let derives = Table::of(book, &[]).begins_lawful();
+            assert_eq!(answer.number == BARREN, !derives, "of {book:?}");
+        }
         plan.truncate(answer.size as usize);
         (answer.number == DONE).then_some(plan)
     }

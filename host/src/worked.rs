@@ -38,7 +38,10 @@ fn compile_cases() -> Vec<(Book, [u32; 4])> {
         (lone(REF), [BARREN, 0, 0, 0]),
         (lone(EMPTY), [DONE, 0, 0, 32]),
         (doubling(), [DONE, 0, 0, 4_120]),
-        (shared_kind_aside(), [DONE, 0, 0, 48]),
+        (shared_kind_aside(), [UNUSED, 1, 0, 0]),
+        (unused_and_barren(), [UNUSED, 0, 0, 0]),
+        (unused_beside_conflict(), [UNUSED, 3, 0, 0]),
+        (reached_upward(), [DONE, 0, 0, 48]),
     ]
 }
 
@@ -151,7 +154,7 @@ fn read_cases() -> Vec<ReadCase> {
             ..refused(&[0], 1, UNEXPECTED, 0, 0)
         },
         accepted(doubling(), &[], 1, &[E + 511]),
-        accepted(shared_kind_aside(), &[0], 1, &[0]),
+        accepted(reached_upward(), &[0], 1, &[0, 2, 1]),
     ]
 }
 
@@ -197,7 +200,9 @@ fn listing_cases() -> Vec<(Book, &'static [u8], &'static str)> {
         (lone(EMPTY), &[], "accept 0 1\n-0\n"),
         (lone(EMPTY), &[0], "refused 13 0 0\n"),
         (doubling(), &[], "accept 0 1\n-511\n"),
-        (shared_kind_aside(), &[0], "accept 1 1\n0\n"),
+        (shared_kind_aside(), &[0], "refused 22 1 0\n"),
+        (unused_and_barren(), &[], "refused 22 0 0\n"),
+        (reached_upward(), &[0], "accept 1 3\n0\n2\n1\n"),
     ]
 }
 

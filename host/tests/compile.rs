@@ -79,10 +79,9 @@ fn every_small_book() {
         });
     }
     assert!(books.pair.tally.total() > 2 * 180_000);
-    books
-        .pair
-        .tally
-        .expect(&[DONE, BARREN, CONFLICT, PLAN_ROOM], 20_000);
+    let tally = &books.pair.tally;
+    tally.expect(&[BARREN, CONFLICT, UNUSED], 7_000);
+    tally.expect(&[DONE, PLAN_ROOM], 2_000);
     books.expect_conflicts(16);
 }
 
@@ -102,7 +101,7 @@ fn random_books() {
     books
         .pair
         .tally
-        .expect(&[DONE, BARREN, CONFLICT, PLAN_ROOM], 10_000);
+        .expect(&[DONE, BARREN, CONFLICT, PLAN_ROOM, UNUSED], 10_000);
     books.expect_conflicts(2_000);
 }
 
@@ -121,7 +120,7 @@ fn large_books() {
     books
         .pair
         .tally
-        .expect(&[DONE, BARREN, CONFLICT, PLAN_ROOM], 100);
+        .expect(&[DONE, BARREN, CONFLICT, PLAN_ROOM, UNUSED], 100);
 }
 
 /// Books with one or two things damaged.
@@ -141,6 +140,7 @@ fn damaged_books() {
     }
     pair.tally
         .expect(&[LENGTH, CONTENTS, SETTINGS, NODE], 3_000);
-    pair.tally.expect(&[DONE, CONFLICT, PLAN_ROOM], 2_000);
-    pair.tally.expect(&[BARREN], 800);
+    pair.tally.expect(&[DONE, CONFLICT], 1_200);
+    pair.tally.expect(&[UNUSED], 3_000);
+    pair.tally.expect(&[PLAN_ROOM, BARREN], 350);
 }

@@ -160,7 +160,7 @@ fn greatest_sets() {
         &input(&all.bytes(), &[]),
         "refused 14 0 18446744073709551615\n",
     );
-    let last = Book { start: 63, ..all };
+    let last = Book::ending(64, &[(TOKEN, 63, 0)]);
     pair.expect_always(
         &input(&last.bytes(), &[]),
         "refused 14 0 9223372036854775808\n",
@@ -205,7 +205,7 @@ fn random_inputs() {
         pair.compare(&input, delivery);
     }
     let often = [
-        DONE, LENGTH, CONTENTS, NODE, BARREN, CONFLICT, UNKNOWN, UNEXPECTED, END,
+        DONE, LENGTH, CONTENTS, NODE, BARREN, CONFLICT, UNUSED, UNKNOWN, UNEXPECTED, END,
     ];
     pair.tally.expect(&often, 100);
     pair.tally.expect(&[INPUT_TOO_LONG, INPUT_TOO_SHORT], 200);

@@ -49,7 +49,7 @@ fn worked_runs() {
 fn compiled_plans() {
     let mut pair = Pair::of(&READ);
     let mut random = Random::new(1);
-    for _ in 0..60_000 {
+    for _ in 0..80_000 {
         let book = likely_book(&mut random);
         let Some(plan) = passed_plan(&book) else {
             continue;

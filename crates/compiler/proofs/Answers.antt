@@ -26,7 +26,7 @@ use Rattle.compiler.specs.Compiles.{Compiles, refused, no-room, done, an
 pub table-blank : (bytes : List ℕ) → formOf bytes .number ≡ DONE → Blank (tableSize (countOf (length bytes))) (zeros 2048)
 table-blank bytes good = blank-less (omega (arith, formed bytes good .size .few-nodes)) (blank-zeros 2048)
 
--- 1 to 6: what judging says
+-- 1 to 6 and 22: what judging says
 pub answered-refused : {bytes plan : List ℕ} {room : ℕ} {v : Verdict} {a : Compiled} → Judges bytes v → v .number ≢ DONE
     → (a ≡ answer (v .number) (v .place) (v .kind) 0) × (plan ≡ zeros room) → Compiles bytes room a plan
 answered-refused judges bad (a-is, clear) = rw (a-is, clear) (refused judges bad)

@@ -1,5 +1,5 @@
--- Demand 2 from what compiling comes to: given plan room enough, a well-formed book passes exactly when its start can produce some run
--- and no node reachable from the start has a conflict; its plan is the one that the rules give.
+-- Demand 2 from what compiling comes to: given plan room enough, a well-formed book passes exactly when every node is reachable from the
+-- start, the start can produce some run and no node has a conflict; its plan is the one that the rules give.
 use Prim.Native.Nat.{ℕ, _+_, _-_, _≤_, _<_}
 use native.Mathlib.Omega.{arith}
 use native.Mathlib.Nat.{add-mul, mul-le-mul-right}
@@ -7,14 +7,14 @@ use native.Mathlib.Numerals.{add-one}
 use mathlib.Core.Bool.{cond}
 use lib.ListN.{length, getD, length-append, length-replicate, List·getD-append}
 use mathlib.Core.Path.{_≡_, refl, _∙_, ap}
-use mathlib.Core.Logic.{_↔_, _≢_, Iff·trans}
+use mathlib.Core.Logic.{_↔_, _≢_, _⊎_, inl, inr, ⊎-elim, Iff·trans}
 use mathlib.Core.List.{List, _++_}
 use Rattle.words.specs.Words.{zeros}
 use Rattle.book.specs.Form.{DONE, formOf, bookOf}
 use Rattle.book.proofs.Decoded.{Formed, formed}
-use Rattle.grammar.specs.Passing.{Fruitful, NoConflict, Passes}
+use Rattle.grammar.specs.Passing.{AllReached, Fruitful, NoConflict, Passes}
 use Rattle.verdict.specs.declared.Verdict.{Verdict}
-use Rattle.verdict.specs.Judges.{judgement, Judges}
+use Rattle.verdict.specs.Judges.{UNUSED, judgement, Judges}
 use Rattle.verdict.proofs.Passing.{passed as judged-passed, passed-judges, passes-exactly as judged-exactly, verdict-listed}
 use Rattle.verdict.proofs.Some.{judges-some}
 use Rattle.verdict.proofs.Unique.{judges-unique}
@@ -69,12 +69,13 @@ module _ {bytes : List ℕ} {room : ℕ} where
     (λ is. done-room c fits (passed-judges judges is)),
   )
 
-  -- given plan room enough, a well-formed book passes exactly when its start can produce some run and no reachable node has a conflict
+  -- given plan room enough, a well-formed book passes exactly when every node is reachable, its start can produce some run and no node has
+  -- a conflict
   pub passes-exactly : {a : Compiled} {p : List ℕ}
       → Compiles bytes room a p
       → formOf bytes .number ≡ DONE
       → sizeOf (bookOf bytes) ≤ room
-      → (a .number ≡ DONE) ↔ (Fruitful (bookOf bytes) × NoConflict (bookOf bytes))
+      → (a .number ≡ DONE) ↔ (AllReached (bookOf bytes) × Fruitful (bookOf bytes) × NoConflict (bookOf bytes))
   passes-exactly c form fits = let judges = judges-some bytes .1 in Iff·trans (passes-judged c judges fits) (judged-exactly judges form)
 
 -- the size of the plan of a book that passes
@@ -83,11 +84,12 @@ plan-small bytes judges =
     let book = judged-passed judges refl .by-rules .well-formed in
     size-small (bookOf bytes .count) (bookOf bytes .kinds) (book .few-nodes) (book .few-kinds)
 
--- every answer's number is on the list: 0 to 7
-pub answer-listed : {bytes : List ℕ} {room : ℕ} {a : Compiled} {p : List ℕ} → Compiles bytes room a p → a .number ≤ PLAN-ROOM
-answer-listed (refused judges _) = omega (arith, verdict-listed judges)
-answer-listed (no-room _ _) = omega arith
-answer-listed (done _ _ _) = omega arith
+-- every answer's number is on the list: 0 to 7, and 22
+pub answer-listed : {bytes : List ℕ} {room : ℕ} {a : Compiled} {p : List ℕ} → Compiles bytes room a p
+    → (a .number ≤ PLAN-ROOM) ⊎ (a .number ≡ UNUSED)
+answer-listed (refused judges _) = ⊎-elim (λ few. inl (omega (arith, few))) inr (verdict-listed judges)
+answer-listed (no-room _ _) = inl (omega arith)
+answer-listed (done _ _ _) = inl (omega arith)
 
 -- the size answered for a book that passes is its plan's
 pub passed-size : {bytes : List ℕ} {room : ℕ} {a : Compiled} {p : List ℕ} → Compiles bytes room a p → a .number ≡ DONE → a .size ≡ sizeOf (bookOf bytes)
@@ -106,7 +108,7 @@ pub room-short : {bytes : List ℕ} {room : ℕ} {a : Compiled} {p : List ℕ}
     → Compiles bytes room a p
     → a .number ≡ PLAN-ROOM
     → (formOf bytes .number ≡ DONE) × (room < sizeOf (bookOf bytes))
-room-short (refused judges _) is = absurd (omega (arith, verdict-listed judges))
+room-short (refused judges _) is = absurd (⊎-elim (λ few. omega (arith, few)) (λ unused. omega (arith, unused)) (verdict-listed judges))
 room-short (no-room judges short) is = (judged-passed judges refl .form, short)
 room-short (done _ _ _) is = absurd (omega arith)
 

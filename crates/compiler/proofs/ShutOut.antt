@@ -9,12 +9,12 @@ use mathlib.Core.List.{List, [], _∷_, _++_}
 use Rattle.words.specs.Words.{u16At, wordBytes, zeros}
 use Rattle.book.specs.Decode.{nodes, nodeAt, nodeGood, firstBad}
 use Rattle.book.specs.Form.{DONE, formOf, bookOf}
-use Rattle.grammar.specs.Rules.{p-empty}
+use Rattle.grammar.specs.Rules.{p-empty, r-start}
 use Rattle.rules.proofs.Growing.{blank-zeros}
 use Rattle.running.specs.Cells.{Marks}
 use Rattle.writer.specs.Bytes.{planBytes, planContents}
 use Rattle.compiler.specs.declared.Compiled.{Compiled}
-use Rattle.grammar.specs.Passing.{Fruitful, NoConflict}
+use Rattle.grammar.specs.Passing.{AllReached, Fruitful, NoConflict}
 use Rattle.compiler.specs.Compiles.{Compiles, sizeOf}
 use Rattle.compiler.proofs.Promise.{passed, passed-passes, passes-exactly}
 
@@ -30,14 +30,19 @@ fail-formed : formOf (lone 0) .number ≡ DONE
 unfolding formOf u16At nodeGood firstBad
 fail-formed = refl
 
+empty-reached : AllReached (bookOf (lone 1))
+unfolding bookOf nodes nodeAt u16At
+empty-reached zero below = r-start
+empty-reached (suc m) below = absurd (omega arith)
+
 empty-fruitful : Fruitful (bookOf (lone 1))
 unfolding bookOf nodes nodeAt u16At
 empty-fruitful = p-empty
 
 empty-no-conflict : NoConflict (bookOf (lone 1))
 unfolding bookOf nodes nodeAt u16At
-empty-no-conflict zero reach = elim [ ]
-empty-no-conflict (suc m) reach = rw (le-ltb (suc m) 1 (omega arith)) (elim [ ])
+empty-no-conflict zero = elim [ ]
+empty-no-conflict (suc m) = rw (le-ltb (suc m) 1 (omega arith)) (elim [ ])
 
 fail-barren : Fruitful (bookOf (lone 0)) → ⊥
 unfolding bookOf nodes nodeAt u16At
@@ -55,7 +60,7 @@ module _
   -- a book of one node that is empty passes
   empty-passes : answers (lone 1) (sizeOf (bookOf (lone 1))) .number ≡ DONE
   empty-passes =
-      passes-exactly {room = sizeOf (bookOf (lone 1))} (meets _ _) empty-formed (omega arith) .1 (empty-fruitful, empty-no-conflict)
+      passes-exactly {room = sizeOf (bookOf (lone 1))} (meets _ _) empty-formed (omega arith) .1 (empty-reached, empty-fruitful, empty-no-conflict)
 
   -- a compiler does not refuse every well-formed book with room enough
   pub not-all-refused :

@@ -1,4 +1,4 @@
-// Compiling a book to a plan: numbers 0 to 7.
+// Compiling a book to a plan: numbers 0 to 7 and 22.
 ghost use mathlib.Core.Path.{_≡_};
 ghost use Prim.Native.Nat.{_<_, _≤_, _^_};
 ghost use lib.ListN.{length};
@@ -74,8 +74,8 @@ fn compile_by(book: &[u8], table: &mut [u64], plan: &mut [u8]) -> Compiled
     put_plan(book, table, plan)
 }
 
-// Compiles a book, for any bytes and any plan room: done with the plan, or the first of 1 to 7 and a clear plan buffer.
-// A small book has a small table, which is quicker to clear.
+// Compiles a book, for any bytes and any plan room: done with the plan, or the first of 1 to 4, 22 and 5 to 7 and a clear
+// plan buffer. A small book has a small table, which is quicker to clear.
 pub fn compile(book: &[u8], plan: &mut [u8]) -> Compiled
     ensures { λ r. ⌜ Compiles (now (book .entry)) (length (now (plan .entry))) r (now (plan .exit)) ⌝ }
 {

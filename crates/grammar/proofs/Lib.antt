@@ -1,4 +1,3 @@
 -- What the rules say of runs, and that without a conflict a run is derived in one way.
 pub mod Facts
-pub mod Clear
 pub mod Unique

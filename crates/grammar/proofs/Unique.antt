@@ -1,6 +1,6 @@
--- The only derivation there is: two derivations of one run from a node without a conflict below are equal. Two derivations of beginnings of
--- one run are taken side by side with what follows each: they are equal, or the kind behind the shorter should not follow. So SNF there is
--- exactly the kinds that take a run on to a longer one.
+-- The only derivation there is: where no node has a conflict, two derivations of one run from a node are equal. Two derivations of
+-- beginnings of one run are taken side by side with what follows each: they are equal, or the kind behind the shorter should not follow. So
+-- SNF there is exactly the kinds that take a run on to a longer one.
 use Prim.Native.Nat.{ℕ}
 use native.Mathlib.Nat.{ℕ-set}
 use mathlib.Core.Path.{_≡_, PathP, refl, sym, subst, _∙_}
@@ -9,13 +9,11 @@ use mathlib.Core.List.{List, [], _∷_, _++_, List·isSet, append-nil, append-as
 use Rattle.book.specs.Book.{Book}
 use Rattle.book.specs.declared.Node.{Node}
 use Rattle.book.specs.declared.Node.the-variants.{Either, Then}
-use Rattle.grammar.specs.Rules.{Reach, c-nullable, c-first, c-follow}
+use Rattle.grammar.specs.Rules.{Conflict, c-nullable, c-first, c-follow}
 use Rattle.grammar.specs.Rules.{Snf, s-left, s-right, s-first-left, s-first-right, s-then-left, s-then-right, s-tagged, s-ref}
-use Rattle.grammar.specs.Rules.{either-left, either-right, then-left, then-right, tagged-left, ref-left}
 use Rattle.grammar.specs.Derivations.{Derives, d-empty, d-token, d-left, d-right, d-then, d-tagged, d-ref, Extends}
 use Rattle.grammar.specs.Passing.{Passes}
 use Rattle.grammar.proofs.Facts.{Opens, derives-productive, derives-opens, snf-extends}
-use Rattle.grammar.proofs.Clear.{Clear, clear-child, clear-here, passes-clear}
 
 -- a run with a derivation of it from a node
 abbrev Derived : (ℕ → Node) → Node → Type 0
@@ -40,48 +38,28 @@ module _ {node : ℕ → Node} where
   agree-as wrap f (agree-right h) = agree-right (f _ h)
 
   -- the two sides of an either
-  agree-sides : {l r : ℕ} {u v : List ℕ} {s t : Derived node (Either l r)} → Clear node (Either l r) → (xs ys : List ℕ)
+  agree-sides : {l r : ℕ} {u v : List ℕ} {s t : Derived node (Either l r)} → (Conflict node (Either l r) → ⊥) → (xs ys : List ℕ)
       → xs ++ u ≡ ys ++ v → Opens node (node l) xs → Opens node (node r) ys → Agree node (Either l r) u v s t
-  agree-sides cl [] [] same a b = absurd (clear-here cl (c-nullable a b))
-  agree-sides cl [] (k ∷ ys) same a e = rw same (agree-left (s-first-right a e))
-  agree-sides cl (k ∷ xs) [] same d b = rw (sym same) (agree-right (s-first-left d b))
-  agree-sides cl (k ∷ xs) (j ∷ ys) same d e = absurd (clear-here cl (c-first d (rw (sym (head-eq-of-cons-eq same)) at e)))
+  agree-sides clear [] [] same a b = absurd (clear (c-nullable a b))
+  agree-sides clear [] (k ∷ ys) same a e = rw same (agree-left (s-first-right a e))
+  agree-sides clear (k ∷ xs) [] same d b = rw (sym same) (agree-right (s-first-left d b))
+  agree-sides clear (k ∷ xs) (j ∷ ys) same d e = absurd (clear (c-first d (rw (sym (head-eq-of-cons-eq same)) at e)))
 
   -- behind the kind that should not follow the left of a then the right takes no event
-  agree-short : {l r k : ℕ} {w u v : List ℕ} {s t : Derived node (Then l r)} → Clear node (Then l r) → Snf node (node l) k → (ys : List ℕ)
+  agree-short : {l r k : ℕ} {w u v : List ℕ} {s t : Derived node (Then l r)} → (Conflict node (Then l r) → ⊥) → Snf node (node l) k → (ys : List ℕ)
       → (k ∷ w) ≡ ys ++ u → Opens node (node r) ys → Agree node (Then l r) u v s t
-  agree-short cl h [] same b = rw (sym same) (agree-left (s-then-left h b))
-  agree-short cl h (j ∷ ys) same e = absurd (clear-here cl (c-follow h (rw (sym (head-eq-of-cons-eq same)) at e)))
+  agree-short clear h [] same b = rw (sym same) (agree-left (s-then-left h b))
+  agree-short clear h (j ∷ ys) same e = absurd (clear (c-follow h (rw (sym (head-eq-of-cons-eq same)) at e)))
 
   abbrev joined : {l r : ℕ} → Derived node (node l) → Derived node (node r) → Derived node (Then l r)
   joined s t = (s .0 ++ t .0, d-then (s .1) (t .1))
 
-  agree-then : {l r : ℕ} {m₁ m₂ u v : List ℕ} {s₁ s₂ : Derived node (node l)} (t₁ t₂ : Derived node (node r)) → Clear node (Then l r)
+  agree-then : {l r : ℕ} {m₁ m₂ u v : List ℕ} {s₁ s₂ : Derived node (node l)} (t₁ t₂ : Derived node (node r)) → (Conflict node (Then l r) → ⊥)
       → Agree node (node l) m₁ m₂ s₁ s₂ → m₁ ≡ t₁ .0 ++ u → m₂ ≡ t₂ .0 ++ v
       → (t₁ .0 ++ u ≡ t₂ .0 ++ v → Agree node (node r) u v t₁ t₂) → Agree node (Then l r) u v (joined s₁ t₁) (joined s₂ t₂)
-  agree-then {s₁ = s} t₁ t₂ cl agree-same p q rest = agree-as (joined s) (λ k. s-then-right (derives-productive (s .1))) (rest (sym p ∙ q))
-  agree-then t₁ t₂ cl (agree-left h) p q rest = agree-short cl h (t₁ .0) p (derives-opens (t₁ .1))
-  agree-then t₁ t₂ cl (agree-right h) p q rest = agree-swap (agree-short cl h (t₂ .0) q (derives-opens (t₂ .1)))
-
-  agree : {top : Node} {xs ys : List ℕ} (u v : List ℕ) → Clear node top → (d : Derives node top xs) (e : Derives node top ys)
-      → xs ++ u ≡ ys ++ v → Agree node top u v (xs, d) (ys, e)
-  agree u v cl d-empty d-empty same = rw same agree-same
-  agree u v cl d-token d-token same = rw (tail-eq-of-cons-eq same) agree-same
-  agree u v cl (d-left d) (d-left e) same =
-      agree-as (λ s. (s .0, d-left (s .1))) (λ k. s-left) (agree u v (clear-child cl either-left) d e same)
-  agree u v cl (d-left {xs = xs} d) (d-right {xs = ys} e) same = agree-sides cl xs ys same (derives-opens d) (derives-opens e)
-  agree u v cl (d-right {xs = xs} d) (d-left {xs = ys} e) same =
-      agree-swap (agree-sides cl ys xs (sym same) (derives-opens e) (derives-opens d))
-  agree u v cl (d-right d) (d-right e) same =
-      agree-as (λ s. (s .0, d-right (s .1))) (λ k. s-right) (agree u v (clear-child cl either-right) d e same)
-  agree u v cl (d-then {xs = xs₁} {ys = ys₁} d d′) (d-then {xs = xs₂} {ys = ys₂} e e′) same =
-      agree-then (ys₁, d′) (ys₂, e′) cl
-      (agree (ys₁ ++ u) (ys₂ ++ v) (clear-child cl then-left) d e (sym (append-assoc xs₁ ys₁ u) ∙ same ∙ append-assoc xs₂ ys₂ v))
-      refl refl (λ rest. agree u v (clear-child cl then-right) d′ e′ rest)
-  agree u v cl (d-tagged d) (d-tagged e) same =
-      agree-as (λ s. (s .0, d-tagged (s .1))) (λ k. s-tagged) (agree u v (clear-child cl tagged-left) d e same)
-  agree u v cl (d-ref d) (d-ref e) same =
-      agree-as (λ s. (s .0, d-ref (s .1))) (λ k. s-ref) (agree u v (clear-child cl ref-left) d e same)
+  agree-then {s₁ = s} t₁ t₂ clear agree-same p q rest = agree-as (joined s) (λ k. s-then-right (derives-productive (s .1))) (rest (sym p ∙ q))
+  agree-then t₁ t₂ clear (agree-left h) p q rest = agree-short clear h (t₁ .0) p (derives-opens (t₁ .1))
+  agree-then t₁ t₂ clear (agree-right h) p q rest = agree-swap (agree-short clear h (t₂ .0) q (derives-opens (t₂ .1)))
 
   agree-ended : {top : Node} {s t : Derived node top} → Agree node top [] [] s t → s ≡ t
   agree-ended agree-same = refl
@@ -94,21 +72,36 @@ module _ {node : ℕ → Node} where
   agree-behind : {top : Node} {k : ℕ} {u : List ℕ} {s t : Derived node top} → Agree node top (k ∷ u) [] s t → Snf node top k
   agree-behind (agree-left h) = h
 
-  -- a kind that takes a run on to a longer one should not follow
-  clear-snf : {top : Node} {k : ℕ} → Clear node top → Extends node top k → Snf node top k
-  clear-snf {k = k} cl h =
-      agree-behind (agree (k ∷ h .rest) [] cl (h .derives-shorter) (h .derives-longer) (sym (append-nil (h .shorter ++ (k ∷ h .rest)))))
+module _ {node : ℕ → Node} (none : (n : ℕ) → Conflict node (node n) → ⊥) where
+  agree : {top : Node} {xs ys : List ℕ} (u v : List ℕ) → (Conflict node top → ⊥) → (d : Derives node top xs) (e : Derives node top ys)
+      → xs ++ u ≡ ys ++ v → Agree node top u v (xs, d) (ys, e)
+  agree u v clear d-empty d-empty same = rw same agree-same
+  agree u v clear d-token d-token same = rw (tail-eq-of-cons-eq same) agree-same
+  agree u v clear (d-left d) (d-left e) same =
+      agree-as (λ s. (s .0, d-left (s .1))) (λ k. s-left) (agree u v (none _) d e same)
+  agree u v clear (d-left {xs = xs} d) (d-right {xs = ys} e) same = agree-sides clear xs ys same (derives-opens d) (derives-opens e)
+  agree u v clear (d-right {xs = xs} d) (d-left {xs = ys} e) same =
+      agree-swap (agree-sides clear ys xs (sym same) (derives-opens e) (derives-opens d))
+  agree u v clear (d-right d) (d-right e) same =
+      agree-as (λ s. (s .0, d-right (s .1))) (λ k. s-right) (agree u v (none _) d e same)
+  agree u v clear (d-then {xs = xs₁} {ys = ys₁} d d′) (d-then {xs = xs₂} {ys = ys₂} e e′) same =
+      agree-then (ys₁, d′) (ys₂, e′) clear
+      (agree (ys₁ ++ u) (ys₂ ++ v) (none _) d e (sym (append-assoc xs₁ ys₁ u) ∙ same ∙ append-assoc xs₂ ys₂ v))
+      refl refl (λ rest. agree u v (none _) d′ e′ rest)
+  agree u v clear (d-tagged d) (d-tagged e) same =
+      agree-as (λ s. (s .0, d-tagged (s .1))) (λ k. s-tagged) (agree u v (none _) d e same)
+  agree u v clear (d-ref d) (d-ref e) same =
+      agree-as (λ s. (s .0, d-ref (s .1))) (λ k. s-ref) (agree u v (none _) d e same)
 
-  -- two derivations of one run are equal
-  clear-unique : {top : Node} {xs : List ℕ} → Clear node top → (d e : Derives node top xs) → d ≡ e
-  clear-unique cl d e = equal-beside d e (agree-ended (agree [] [] cl d e refl))
+-- the only derivation there is, from a node of a passed book
+pub derivation-unique : {b : Book} → Passes b → (n : ℕ) {xs : List ℕ} (d e : Derives (b .node) (b .node n) xs) → d ≡ e
+derivation-unique p n d e = equal-beside d e (agree-ended (agree (p .no-conflict) [] [] (p .no-conflict n) d e refl))
 
--- the only derivation there is, from a reachable node of a passed book
-pub derivation-unique : {b : Book} → Passes b → (n : ℕ) → Reach (b .node) (b .start) n → {xs : List ℕ}
-    (d e : Derives (b .node) (b .node n) xs) → d ≡ e
-derivation-unique p n r = clear-unique (passes-clear p n r)
-
--- at a reachable node of a passed book SNF is exactly what takes a run on to a longer one
-pub snf-iff : {b : Book} → Passes b → (n : ℕ) → Reach (b .node) (b .start) n → {k : ℕ}
-    → Snf (b .node) (b .node n) k ↔ Extends (b .node) (b .node n) k
-snf-iff p n r = (snf-extends, clear-snf (passes-clear p n r))
+-- at a node of a passed book SNF is exactly what takes a run on to a longer one
+pub snf-iff : {b : Book} → Passes b → (n : ℕ) {k : ℕ} → Snf (b .node) (b .node n) k ↔ Extends (b .node) (b .node n) k
+snf-iff p n {k} = (
+  snf-extends,
+  (λ h.
+      let behind = sym (append-nil (h .shorter ++ (k ∷ h .rest))) in
+      agree-behind (agree (p .no-conflict) (k ∷ h .rest) [] (p .no-conflict n) (h .derives-shorter) (h .derives-longer) behind)),
+)

@@ -5,7 +5,7 @@ use mathlib.Core.Path.{_≡_}
 use mathlib.Core.List.{List, [], _∷_}
 use Rattle.book.specs.Form.{DONE}
 use Rattle.compiler.specs.declared.Compiled.{Compiled}
-use Rattle.verdict.specs.Judges.{BARREN, CONFLICT}
+use Rattle.verdict.specs.Judges.{BARREN, CONFLICT, UNUSED}
 use Rattle.compiler.specs.Compiles.{answer}
 use Rattle.reader.specs.declared.Reading.{Reading}
 use Rattle.running.specs.Running.{DEEP, UNKNOWN, UNEXPECTED, END}
@@ -43,6 +43,7 @@ table =
     ∷ compiled (answer BARREN 0 0 0) "refused 5 0 0\n"
     ∷ compiled (answer CONFLICT 2 255 0) "refused 6 2 255\n"
     ∷ compiled (answer CONFLICT 4 1 0) "refused 6 4 1\n"
+    ∷ compiled (answer UNUSED 1 0 0) "refused 22 1 0\n"
     ∷ read 3 (answered DONE 3 8 0) (8 ∷ 0 ∷ 7 ∷ 6 ∷ 5 ∷ 1 ∷ 32772 ∷ 2 ∷ []) "accept 3 8\n8\n0\n7\n6\n5\n1\n-4\n2\n"
     ∷ read 2 (answered DONE 2 5 0) (8 ∷ 0 ∷ 7 ∷ 32774 ∷ 2 ∷ 0 ∷ 0 ∷ []) "accept 2 5\n8\n0\n7\n-6\n2\n"
     ∷ read 3 (answered DEEP 1 0 0) [] "refused 11 1 0\n"

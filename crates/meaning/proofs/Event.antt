@@ -5,15 +5,15 @@ use native.Mathlib.Omega.{arith}
 use mathlib.Core.Path.{_≡_, refl, sym, ap, _∙_}
 use mathlib.Core.Bool.{Bool, true, false, false≢true}
 use mathlib.Core.List.{List, [], _∷_, _++_}
-use Rattle.book.specs.Book.{Book, WellFormed}
+use Rattle.book.specs.Book.{Book}
 use Rattle.book.specs.declared.Node.{Node}
 use Rattle.grammar.specs.Rules.{First, Nullable}
 use Rattle.running.specs.Cells.{Marks, Marked, planFor}
 use Rattle.running.specs.Running.{unlimited, UNEXPECTED, Step, taken, refused, emptied, noted, takeOff, walk, event}
+use Rattle.grammar.specs.Passing.{Passes}
 use Rattle.grammar.proofs.Facts.{nullable-first-snf}
 use Rattle.meaning.proofs.Parts.{Held, held-none, held-some}
 use Rattle.meaning.proofs.Walk.{after, recorded, size, part-first, walk-sound, walk-complete}
-use Rattle.grammar.proofs.Clear.{Clear}
 use Rattle.meaning.proofs.Machine.{walk-is, cell-first, cell-other}
 use Rattle.meaning.proofs.Size.{size-below}
 use Rattle.meaning.proofs.Orderly.{Apart, Orderly, orderly-part, held-nothing, walk-orderly}
@@ -53,21 +53,23 @@ barred {node} {k} {n} {held} g f = event-refused go
     go zs ps (held-none c h) = g c
     go zs ps (held-some p h) = f (part-first p)
 
-module _ (b : Book) (formed : WellFormed b) (marks : Marks) (marked : Marked (b .node) marks) (k : ℕ) where
-  walk-whole : {n : ℕ} (d : First (b .node) (b .node n) k) (held : List ℕ) → Clear (b .node) (b .node n)
+module _ {b : Book} (passes : Passes b) (marks : Marks) (marked : Marked (b .node) marks) (k : ℕ) where
+  -- a walk that begins goes along a derivation to its end
+  pub walk-whole : {n : ℕ} (d : First (b .node) (b .node n) k) (held : List ℕ)
       → walk (planFor b marks) unlimited k (b .count) n held ≡ taken (after d held) (recorded n d)
-  walk-whole {n} d held cl =
-      let h = size-below b formed d refl cl in
+  walk-whole {n} d held =
+      let none = passes .no-conflict in
+      let h = size-below b (passes .well-formed) none d in
       let q : b .count ≡ (b .count - size d) + size d = omega arith in
-      ap (λ (f : ℕ). walk (planFor b marks) unlimited k f n held) q ∙ walk-is b marks marked k (b .count - size d) n d held refl cl
+      ap (λ (f : ℕ). walk (planFor b marks) unlimited k f n held) q ∙ walk-is b marks marked k none (b .count - size d) n d held refl (none n)
 
   -- a part with the kind in FIRST takes the event
-  entered : {n : ℕ} {held : List ℕ} (d : First (b .node) (b .node n) k) → Clear (b .node) (b .node n) → Apart (b .node) (b .node n) held
+  entered : {n : ℕ} {held : List ℕ} (d : First (b .node) (b .node n) k) → Apart (b .node) (b .node n) held
       → Orderly (b .node) held → Event (b .node) k (n ∷ held) (taken (after d held) (recorded n d))
-  entered {n} {held} d cl a o =
+  entered {n} {held} d a o =
       event-taken
       (record {
-        orderly = walk-orderly d held cl a o;
+        orderly = walk-orderly (passes .no-conflict) d held (passes .no-conflict n) a o;
         sound = λ zs ps h. let t = walk-sound n d held h in held-some (t .part) (t .behind);
         complete = go;
       })
@@ -76,15 +78,15 @@ module _ (b : Book) (formed : WellFormed b) (marks : Marks) (marked : Marked (b 
       go zs ps (held-none c h) = absurd (a .none k zs _ (nullable-first-snf c d) h)
       go zs ps (held-some p h) =
           let w = walk-complete p h in
-          let q = walk-whole d held cl in
-          let r = walk-whole (w .first) held cl in
+          let q = walk-whole d held in
+          let r = walk-whole (w .first) held in
           let e : after (w .first) held ≡ after d held = cc in
           (w .others, rw e at (w .behind))
 
   pub event-is : (held : List ℕ) → Orderly (b .node) held → Event (b .node) k held (event (planFor b marks) unlimited k held)
   unfolding event takeOff
   event-is [] o = event-refused (λ zs ps. held-nothing)
-  event-is (n ∷ held) (orderly-part p cl a o) = go (marks .first n k) refl (marks .null n) refl (event-is held o)
+  event-is (n ∷ held) (orderly-part p a o) = go (marks .first n k) refl (marks .null n) refl (event-is held o)
     where
       go : (t : Bool) → marks .first n k ≡ t → (u : Bool) → marks .null n ≡ u
           → Event (b .node) k held (event (planFor b marks) unlimited k held)
@@ -92,8 +94,8 @@ module _ (b : Book) (formed : WellFormed b) (marks : Marks) (marked : Marked (b 
       go true e u f v =
           let d = marked .first-is n k .0 e in
           let c = cell-first b marks marked k refl d in
-          let w = walk-whole d held cl in
-          rw (c, w) (entered d cl a o)
+          let w = walk-whole d held in
+          rw (c, w) (entered d a o)
       go false e true f v =
           let c = cell-other b marks marked k n (b .node n) e in
           rw (c, f) (passed (marked .null-is n .0 f) (λ d. false≢true (sym e ∙ marked .first-is n k .1 d)) v)

@@ -1,4 +1,4 @@
--- The walk of a plan's rows is the walk along any derivation of the kind in FIRST, where no node below has a conflict: the cell of a
+-- The walk of a plan's rows is the walk along any derivation of the kind in FIRST, where no node has a conflict: the cell of a
 -- node for a kind leaves only one way to go on.
 use Prim.Native.Nat.{ℕ, suc, _+_}
 use native.Mathlib.Nat.{add-suc}
@@ -9,13 +9,12 @@ use lib.Dec.{eqb}
 use Rattle.book.specs.Book.{Book, leftOf, rightOf}
 use Rattle.book.specs.declared.Node.{Node}
 use Rattle.book.specs.declared.Node.the-variants.{Fail, Empty, Token, Either, Then, Tagged, Ref}
-use Rattle.grammar.specs.Rules.{First, f-token, f-left, f-right, f-hold, f-skip, f-tagged, f-ref, c-first, c-follow}
-use Rattle.grammar.specs.Rules.{either-left, either-right, then-left, then-right, tagged-left, ref-left}
+use Rattle.grammar.specs.Rules.{First, f-token, f-left, f-right, f-hold, f-skip, f-tagged, f-ref, Conflict, c-first, c-follow}
 use Rattle.running.specs.Cells.{Marks, Marked, cellOf, planFor}
 use Rattle.running.specs.Running.{Move, take-event, go-left, hold-right, skip-left, go-right, moveOf, unlimited, emptied, Step, taken, noted, visit, walk}
+use Rattle.grammar.specs.Passing.{NoConflict}
 use Rattle.grammar.proofs.Facts.{nullable-first-snf}
 use Rattle.meaning.proofs.Walk.{after, recorded, size}
-use Rattle.grammar.proofs.Clear.{Clear, clear-child, clear-here}
 
 -- what is not true is false
 pub false-unless : (t : Bool) → (t ≡ true → ⊥) → t ≡ false
@@ -44,39 +43,6 @@ module _ (b : Book) (marks : Marks) (marked : Marked (b .node) marks) (k : ℕ) 
       λ i. noted n
       (visit ((ap (λ (node : Node). moveOf (cellOf marks k n node)) e ∙ c) i) (λ m h. walk (planFor b marks) unlimited k (extra + left) m h) unlimited (leftOf (e i)) (rightOf (e i)) held)
 
-  -- the walk goes along any derivation
-  pub walk-is : {top : Node} (extra n : ℕ) (d : First (b .node) top k) (held : List ℕ) → b .node n ≡ top → Clear (b .node) top
-      → walk (planFor b marks) unlimited k (extra + size d) n held ≡ taken (after d held) (recorded n d)
-  unfolding size after recorded cellOf visit noted moveOf
-  walk-is extra n (f-token {k}) held e cl =
-      let mark = marked-first e f-token in
-      going extra 0 n (Token k) take-event held e (rw mark)
-  walk-is extra n (f-left {l} {r} d) held e cl =
-      let mark = marked-first e (f-left d) in
-      let left = marked-first refl d in
-      going extra (size d) n (Either l r) go-left held e (rw (mark, left)) ∙ ap (noted n) (walk-is extra l d held refl (clear-child cl either-left))
-  walk-is extra n (f-right {l} {r} d) held e cl =
-      let mark = marked-first e (f-right d) in
-      let left = unmarked-first l (λ c. clear-here cl (c-first c d)) in
-      going extra (size d) n (Either l r) go-right held e (rw (mark, left)) ∙ ap (noted n) (walk-is extra r d held refl (clear-child cl either-right))
-  walk-is extra n (f-hold {l} {r} d p) held e cl =
-      let mark = marked-first e (f-hold d p) in
-      let left = marked-first refl d in
-      going extra (size d) n (Then l r) hold-right held e (rw (mark, left, and-false (marks .null l)))
-      ∙ ap (noted n) (walk-is extra l d (r ∷ held) refl (clear-child cl then-left))
-  walk-is extra n (f-skip {l} {r} a d) held e cl =
-      let mark = marked-first e (f-skip a d) in
-      let left = unmarked-first l (λ c. clear-here cl (c-follow (nullable-first-snf a c) d)) in
-      let null = marked .null-is l .1 a in
-      going extra (size d) n (Then l r) skip-left held e (rw (mark, left, null))
-      ∙ ap (λ (s : Step). noted n (noted (emptied l) s)) (walk-is extra r d held refl (clear-child cl then-right))
-  walk-is extra n (f-tagged {l} {t} d) held e cl =
-      let mark = marked-first e (f-tagged d) in
-      going extra (size d) n (Tagged l t) go-left held e (rw mark) ∙ ap (noted n) (walk-is extra l d held refl (clear-child cl tagged-left))
-  walk-is extra n (f-ref {l} d) held e cl =
-      let mark = marked-first e (f-ref d) in
-      going extra (size d) n (Ref l) go-left held e (rw mark) ∙ ap (noted n) (walk-is extra l d held refl (clear-child cl ref-left))
-
   -- the cell of a kind in FIRST is not 0
   pub cell-first : {n : ℕ} {top : Node} → b .node n ≡ top → First (b .node) top k → eqb (cellOf marks k n top) 0 ≡ false
   unfolding cellOf
@@ -98,3 +64,37 @@ module _ (b : Book) (marks : Marks) (marked : Marked (b .node) marks) (k : ℕ) 
   cell-other n (Then l r) mark = rw mark
   cell-other n (Tagged l t) mark = rw mark
   cell-other n (Ref l) mark = rw mark
+
+  module _ (none : NoConflict b) where
+    -- the walk goes along any derivation
+    pub walk-is : {top : Node} (extra n : ℕ) (d : First (b .node) top k) (held : List ℕ) → b .node n ≡ top → (Conflict (b .node) top → ⊥)
+        → walk (planFor b marks) unlimited k (extra + size d) n held ≡ taken (after d held) (recorded n d)
+    unfolding size after recorded cellOf visit noted moveOf
+    walk-is extra n (f-token {k}) held e clear =
+        let mark = marked-first e f-token in
+        going extra 0 n (Token k) take-event held e (rw mark)
+    walk-is extra n (f-left {l} {r} d) held e clear =
+        let mark = marked-first e (f-left d) in
+        let left = marked-first refl d in
+        going extra (size d) n (Either l r) go-left held e (rw (mark, left)) ∙ ap (noted n) (walk-is extra l d held refl (none _))
+    walk-is extra n (f-right {l} {r} d) held e clear =
+        let mark = marked-first e (f-right d) in
+        let left = unmarked-first l (λ c. clear (c-first c d)) in
+        going extra (size d) n (Either l r) go-right held e (rw (mark, left)) ∙ ap (noted n) (walk-is extra r d held refl (none _))
+    walk-is extra n (f-hold {l} {r} d p) held e clear =
+        let mark = marked-first e (f-hold d p) in
+        let left = marked-first refl d in
+        going extra (size d) n (Then l r) hold-right held e (rw (mark, left, and-false (marks .null l)))
+        ∙ ap (noted n) (walk-is extra l d (r ∷ held) refl (none _))
+    walk-is extra n (f-skip {l} {r} a d) held e clear =
+        let mark = marked-first e (f-skip a d) in
+        let left = unmarked-first l (λ c. clear (c-follow (nullable-first-snf a c) d)) in
+        let null = marked .null-is l .1 a in
+        going extra (size d) n (Then l r) skip-left held e (rw (mark, left, null))
+        ∙ ap (λ (s : Step). noted n (noted (emptied l) s)) (walk-is extra r d held refl (none _))
+    walk-is extra n (f-tagged {l} {t} d) held e clear =
+        let mark = marked-first e (f-tagged d) in
+        going extra (size d) n (Tagged l t) go-left held e (rw mark) ∙ ap (noted n) (walk-is extra l d held refl (none _))
+    walk-is extra n (f-ref {l} d) held e clear =
+        let mark = marked-first e (f-ref d) in
+        going extra (size d) n (Ref l) go-left held e (rw mark) ∙ ap (noted n) (walk-is extra l d held refl (none _))

@@ -7,9 +7,10 @@ use mathlib.Core.List.{List, [], _∷_, _++_}
 use lib.ListN.{length}
 use lib.Dec.{ltb}
 use borrow.Author.Tests.{lt-ltb, le-ltb, ltb-true, ltb-false}
-use Rattle.book.specs.Book.{Book, WellFormed}
+use Rattle.book.specs.Book.{Book}
 use Rattle.book.specs.declared.Node.{Node}
 use Rattle.grammar.specs.Rules.{Nullable}
+use Rattle.grammar.specs.Passing.{Passes}
 use Rattle.running.specs.Cells.{Marks, Marked, planFor}
 use Rattle.running.specs.Running.{unlimited, UNEXPECTED, UNKNOWN, END, Step, Answer, accepted, stopped, emptied, logged, onward, finish, reads}
 use Rattle.meaning.specs.Meaning.{refusalOf}
@@ -98,11 +99,11 @@ module _ {node : ℕ → Node} where
   run-onward rest h o (event-taken t) f = run-taken t (f _ (t .orderly))
   run-onward {kinds} {k} {at} rest h o (event-refused g) f = run-refused {number = UNEXPECTED} {i = at} (parted-here o g) (rw (lt-ltb k kinds h)) (omega arith)
 
-module _ (b : Book) (formed : WellFormed b) (marks : Marks) (marked : Marked (b .node) marks) where
+module _ {b : Book} (passes : Passes b) (marks : Marks) (marked : Marked (b .node) marks) where
   -- a kind that begins what parts held derive is one of the book's
   held-kind : {k : ℕ} {held zs ps : List ℕ} → Held (b .node) held (k ∷ zs) ps → k < b .kinds
   held-kind (held-none c h) = held-kind h
-  held-kind (held-some p h) = first-kind b formed refl (part-first p)
+  held-kind (held-some p h) = first-kind b (passes .well-formed) refl (part-first p)
 
   finish-is : (at : ℕ) (before held : List ℕ) → Finish (b .node) at before held (finish (planFor b marks) at before held)
   unfolding finish
@@ -125,7 +126,7 @@ module _ (b : Book) (formed : WellFormed b) (marks : Marks) (marked : Marked (b 
           → Run (b .node) (b .kinds) held (k ∷ xs) at (reads (planFor b marks) unlimited at held (k ∷ xs))
       go true e f =
           rw e
-          (run-onward (λ then. reads (planFor b marks) unlimited (suc at) then xs) (ltb-true k (b .kinds) e) o (event-is b formed marks marked k held o) f)
+          (run-onward (λ then. reads (planFor b marks) unlimited (suc at) then xs) (ltb-true k (b .kinds) e) o (event-is passes marks marked k held o) f)
       go false e f =
           let h = ltb-false k (b .kinds) e in
           rw e (run-refused {number = UNKNOWN} {i = at} (parted-here o (λ zs ps g. let c = held-kind g in omega arith)) (rw (le-ltb k (b .kinds) h)) (omega arith))

@@ -3,16 +3,15 @@
 use Prim.Native.Nat.{ℕ, zero, suc, _<_, _≤_}
 use native.Mathlib.Decide.{ℕ-discrete, decLt}
 use native.Mathlib.Omega.{arith}
-use mathlib.Core.Path.{_≡_, refl, sym, ap, pathJ, _∙_}
+use mathlib.Core.Path.{_≡_, refl, sym, ap, pathJ, subst, _∙_}
 use mathlib.Core.Logic.{_≢_}
 use Rattle.book.specs.Book.{Book, WellFormed, Proper, token-is}
 use Rattle.book.specs.declared.Node.{Node}
 use Rattle.book.specs.declared.Node.the-variants.{Fail, Token}
-use Rattle.grammar.specs.Rules.{First, f-token, f-left, f-right, f-hold, f-skip, f-tagged, f-ref, c-first, c-follow}
-use Rattle.grammar.specs.Rules.{either-left, either-right, then-left, then-right, tagged-left, ref-left}
+use Rattle.grammar.specs.Rules.{First, f-token, f-left, f-right, f-hold, f-skip, f-tagged, f-ref, Conflict, c-first, c-follow}
+use Rattle.grammar.specs.Passing.{NoConflict}
 use Rattle.grammar.proofs.Facts.{nullable-first-snf}
 use Rattle.meaning.proofs.Walk.{size}
-use Rattle.grammar.proofs.Clear.{Clear, clear-child, clear-here}
 
 -- a number, with another in place of one
 swapped : (n v w : ℕ) → Dec (w ≡ n) → ℕ
@@ -49,26 +48,27 @@ module _ {node : ℕ → Node} {k : ℕ} where
   unfolding size
   token-size f-token = refl
 
-  -- all derivations of a kind in FIRST of a node are of one size
-  same-size : {top : Node} → Clear node top → (d e : First node top k) → size d ≡ size e
-  unfolding size
-  same-size cl f-token e = let q = token-size e in omega arith
-  same-size cl (f-left d) (f-left e) = ap suc (same-size (clear-child cl either-left) d e)
-  same-size cl (f-left d) (f-right e) = absurd (clear-here cl (c-first d e))
-  same-size cl (f-right d) (f-left e) = absurd (clear-here cl (c-first e d))
-  same-size cl (f-right d) (f-right e) = ap suc (same-size (clear-child cl either-right) d e)
-  same-size cl (f-hold d p) (f-hold e q) = ap suc (same-size (clear-child cl then-left) d e)
-  same-size cl (f-hold d p) (f-skip a e) = absurd (clear-here cl (c-follow (nullable-first-snf a d) e))
-  same-size cl (f-skip a d) (f-hold e q) = absurd (clear-here cl (c-follow (nullable-first-snf a e) d))
-  same-size cl (f-skip a d) (f-skip c e) = ap suc (same-size (clear-child cl then-right) d e)
-  same-size cl (f-tagged d) (f-tagged e) = ap suc (same-size (clear-child cl tagged-left) d e)
-  same-size cl (f-ref d) (f-ref e) = ap suc (same-size (clear-child cl ref-left) d e)
-
-  same-size-at : {top low : Node} → top ≡ low → Clear node top → (d : First node top k) (e : First node low k) → size d ≡ size e
-  same-size-at q cl d e = pathJ (λ low q. (e : First node low k) → size d ≡ size e) (λ e. same-size cl d e) q e
-
   fail-first : First node Fail k → ⊥
   fail-first = elim [ ]
+
+module _ {node : ℕ → Node} (none : (n : ℕ) → Conflict node (node n) → ⊥) {k : ℕ} where
+  -- all derivations of a kind in FIRST of a node are of one size
+  same-size : {top : Node} → (Conflict node top → ⊥) → (d e : First node top k) → size d ≡ size e
+  unfolding size
+  same-size clear f-token e = let q = token-size e in omega arith
+  same-size clear (f-left d) (f-left e) = ap suc (same-size (none _) d e)
+  same-size clear (f-left d) (f-right e) = absurd (clear (c-first d e))
+  same-size clear (f-right d) (f-left e) = absurd (clear (c-first e d))
+  same-size clear (f-right d) (f-right e) = ap suc (same-size (none _) d e)
+  same-size clear (f-hold d p) (f-hold e q) = ap suc (same-size (none _) d e)
+  same-size clear (f-hold d p) (f-skip a e) = absurd (clear (c-follow (nullable-first-snf a d) e))
+  same-size clear (f-skip a d) (f-hold e q) = absurd (clear (c-follow (nullable-first-snf a e) d))
+  same-size clear (f-skip a d) (f-skip c e) = ap suc (same-size (none _) d e)
+  same-size clear (f-tagged d) (f-tagged e) = ap suc (same-size (none _) d e)
+  same-size clear (f-ref d) (f-ref e) = ap suc (same-size (none _) d e)
+
+  same-size-at : {top low : Node} → top ≡ low → (Conflict node top → ⊥) → (d : First node top k) (e : First node low k) → size d ≡ size e
+  same-size-at q clear d e = pathJ (λ low q. (e : First node low k) → size d ≡ size e) (λ e. same-size clear d e) q e
 
 -- a node on a walk, with so many visits after it
 record On (node : ℕ → Node) (k i : ℕ) : Type 0 where
@@ -77,36 +77,38 @@ record On (node : ℕ → Node) (k i : ℕ) : Type 0 where
   is : node number ≡ top
   first : First node top k
   sized : size first ≡ suc i
-  clear : Clear node top
 
 module _ {node : ℕ → Node} {k : ℕ} where
   -- this node, if no more visits are left behind it, or one on the walk behind it
-  on-or : {low top : Node} (i n : ℕ) (d : First node top k) (e : First node low k) → node n ≡ top → Clear node top → size d ≡ suc (size e)
+  on-or : {low top : Node} (i n : ℕ) (d : First node top k) (e : First node low k) → node n ≡ top → size d ≡ suc (size e)
       → i < size d → (i < size e → On node k i) → Dec (i < size e) → On node k i
-  on-or i n d e q cl s h f (yes g) = f g
-  on-or i n d e q cl s h f (no g) = record { number = n; top = _; is = q; first = d; sized = omega arith; clear = cl }
+  on-or i n d e q s h f (yes g) = f g
+  on-or i n d e q s h f (no g) = record { number = n; top = _; is = q; first = d; sized = omega arith }
 
-  on : {top : Node} (i n : ℕ) (d : First node top k) → node n ≡ top → Clear node top → i < size d → On node k i
+  on : {top : Node} (i n : ℕ) (d : First node top k) → node n ≡ top → i < size d → On node k i
   unfolding size
-  on i n f-token q cl h = record { number = n; top = _; is = q; first = f-token; sized = omega arith; clear = cl }
-  on i n (f-left {l} d) q cl h = on-or i n (f-left d) d q cl refl h (λ g. on i l d refl (clear-child cl either-left) g) (decLt i (size d))
-  on i n (f-right {r = r} d) q cl h = on-or i n (f-right d) d q cl refl h (λ g. on i r d refl (clear-child cl either-right) g) (decLt i (size d))
-  on i n (f-hold {l} d p) q cl h = on-or i n (f-hold d p) d q cl refl h (λ g. on i l d refl (clear-child cl then-left) g) (decLt i (size d))
-  on i n (f-skip {r = r} a d) q cl h = on-or i n (f-skip a d) d q cl refl h (λ g. on i r d refl (clear-child cl then-right) g) (decLt i (size d))
-  on i n (f-tagged {l} d) q cl h = on-or i n (f-tagged d) d q cl refl h (λ g. on i l d refl (clear-child cl tagged-left) g) (decLt i (size d))
-  on i n (f-ref {l} d) q cl h = on-or i n (f-ref d) d q cl refl h (λ g. on i l d refl (clear-child cl ref-left) g) (decLt i (size d))
-
-  on-apart : {i j : ℕ} (s : On node k i) (t : On node k j) → s .number ≡ t .number → i ≡ j
-  on-apart s t e =
-      let q = same-size-at (sym (s .is) ∙ ap node e ∙ t .is) (s .clear) (s .first) (t .first) in
-      let a = s .sized in
-      let c = t .sized in
-      omega arith
+  on i n f-token q h = record { number = n; top = _; is = q; first = f-token; sized = omega arith }
+  on i n (f-left {l} d) q h = on-or i n (f-left d) d q refl h (λ g. on i l d refl g) (decLt i (size d))
+  on i n (f-right {r = r} d) q h = on-or i n (f-right d) d q refl h (λ g. on i r d refl g) (decLt i (size d))
+  on i n (f-hold {l} d p) q h = on-or i n (f-hold d p) d q refl h (λ g. on i l d refl g) (decLt i (size d))
+  on i n (f-skip {r = r} a d) q h = on-or i n (f-skip a d) d q refl h (λ g. on i r d refl g) (decLt i (size d))
+  on i n (f-tagged {l} d) q h = on-or i n (f-tagged d) d q refl h (λ g. on i l d refl g) (decLt i (size d))
+  on i n (f-ref {l} d) q h = on-or i n (f-ref d) d q refl h (λ g. on i l d refl g) (decLt i (size d))
 
   -- as many different nodes as the walk visits, looked up by the visits after each
   visited : (s : ℕ) → ((i : ℕ) → i < s → On node k i) → (i : ℕ) → Dec (i < s) → ℕ
   visited s f i (yes h) = f i h .number
   visited s f i (no h) = 0
+
+module _ {node : ℕ → Node} (none : (n : ℕ) → Conflict node (node n) → ⊥) {k : ℕ} where
+  -- with different numbers of visits after them the nodes are different
+  on-apart : {i j : ℕ} (s : On node k i) (t : On node k j) → s .number ≡ t .number → i ≡ j
+  on-apart s t e =
+      let clear = subst (λ top. Conflict node top → ⊥) (s .is) (none (s .number)) in
+      let q = same-size-at none (sym (s .is) ∙ ap node e ∙ t .is) clear (s .first) (t .first) in
+      let a = s .sized in
+      let c = t .sized in
+      omega arith
 
   visited-apart : (s : ℕ) (f : (i : ℕ) → i < s → On node k i) (i j : ℕ) (t : Dec (i < s)) (u : Dec (j < s)) → i < s → j < s
       → visited s f i t ≡ visited s f j u → i ≡ j
@@ -133,12 +135,12 @@ module _ (b : Book) (formed : WellFormed b) {k : ℕ} where
   visited-below s f i (no h) p = absurd (h p)
 
   -- a walk visits at most as many nodes as the book has
-  pub size-below : {n : ℕ} {top : Node} (d : First (b .node) top k) → b .node n ≡ top → Clear (b .node) top → size d ≤ b .count
-  size-below {n} d q cl =
-      let f : (i : ℕ) → i < size d → On (b .node) k i = λ i h. on i n d q cl h in
+  pub size-below : NoConflict b → {n : ℕ} (d : First (b .node) (b .node n) k) → size d ≤ b .count
+  size-below none {n} d =
+      let f : (i : ℕ) → i < size d → On (b .node) k i = λ i h. on i n d refl h in
       pigeonhole (b .count) (size d) (λ i. visited (size d) f i (decLt i (size d)))
       (λ i h. visited-below (size d) f i (decLt i (size d)) h)
-      (λ i j h g e. visited-apart (size d) f i j (decLt i (size d)) (decLt j (size d)) h g e)
+      (λ i j h g e. visited-apart none (size d) f i j (decLt i (size d)) (decLt j (size d)) h g e)
 
   -- a kind in FIRST is one of the book's
   pub first-kind : {n : ℕ} {top : Node} → b .node n ≡ top → First (b .node) top k → k < b .kinds

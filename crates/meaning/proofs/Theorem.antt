@@ -6,14 +6,12 @@ use mathlib.Core.List.{List, [], _∷_, _++_}
 use lib.ListN.{length, getD, length-append}
 use lib.Seq.{take-at, getD-at, append-snoc}
 use Rattle.book.specs.Book.{Book}
-use Rattle.grammar.specs.Rules.{r-start}
 use Rattle.running.specs.Cells.{Marks, Marked, planFor}
 use Rattle.running.specs.Running.{unlimited, Answer, reading}
 use Rattle.grammar.specs.Derivations.{Begins}
 use Rattle.grammar.specs.Passing.{Passes}
 use Rattle.meaning.specs.Meaning.{Refuses, Means, means-accepted, means-refused, means-end, refusalOf}
 use Rattle.meaning.proofs.Parts.{held-derives, derives-held}
-use Rattle.grammar.proofs.Clear.{passes-clear}
 use Rattle.meaning.proofs.Orderly.{Orderly, orderly-end, orderly-part, held-nothing}
 use Rattle.meaning.proofs.Run.{Parted, Run, run-accepted, run-refused, run-end, run-is}
 
@@ -60,11 +58,11 @@ module _ {b : Book} where
 
 -- the start, held alone, is in order
 start-orderly : {b : Book} → Passes b → Orderly (b .node) (b .start ∷ [])
-start-orderly {b} passes =
-    orderly-part (passes .productive) (passes-clear passes (b .start) r-start) (record { none = λ k zs ps s. held-nothing }) orderly-end
+start-orderly passes =
+    orderly-part (passes .productive) (record { none = λ k zs ps s. held-nothing }) orderly-end
 
 module _ {b : Book} (passes : Passes b) (marks : Marks) (marked : Marked (b .node) marks) (xs : List ℕ) where
   -- what the machine answers is what the book means
   pub reading-means : Means b xs (reading (planFor b marks) unlimited xs)
   unfolding reading
-  reading-means = run-means (run-is b (passes .well-formed) marks marked xs 0 (b .start ∷ []) (start-orderly passes))
+  reading-means = run-means (run-is passes marks marked xs 0 (b .start ∷ []) (start-orderly passes))

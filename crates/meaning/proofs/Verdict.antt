@@ -7,7 +7,6 @@ use mathlib.Core.List.{List, [], _++_, append-nil, append-assoc}
 use lib.ListN.{take, drop, getD, take-append-drop}
 use lib.Seq.{take-take}
 use Rattle.book.specs.Book.{Book}
-use Rattle.grammar.specs.Rules.{r-start}
 use Rattle.running.specs.Running.{END, Answer, accepted, stopped}
 use Rattle.grammar.specs.Derivations.{Lawful, Begins}
 use Rattle.grammar.specs.Passing.{Passes}
@@ -55,7 +54,7 @@ answerOf (ended-so i e) = stopped END i []
 module _ {b : Book} (passes : Passes b) {xs : List ℕ} where
   fate-unique : (f g : Fate b xs) → answerOf f ≡ answerOf g
   unfolding answerOf
-  fate-unique (lawful-so d) (lawful-so e) = ap (λ f. accepted (tree (b .start) f)) (derivation-unique passes (b .start) r-start d e)
+  fate-unique (lawful-so d) (lawful-so e) = ap (λ f. accepted (tree (b .start) f)) (derivation-unique passes (b .start) d e)
   fate-unique (lawful-so d) (refused-so j s) = absurd (refuses-differs s (lawful-begins d))
   fate-unique (lawful-so d) (ended-so j e) = absurd (e .unlawful d)
   fate-unique (refused-so i r) (lawful-so d) = absurd (refuses-differs r (lawful-begins d))

@@ -12,7 +12,7 @@ use Rattle.book.specs.Form.{DONE, judged, formOf, bookOf}
 use Rattle.book.proofs.Laws.{form-listed}
 use Rattle.book.proofs.Decoded.{formed, well-formed}
 use Rattle.book.proofs.Encoded.{good-form-bytes, well-formed-has-bytes as encoded}
-use Rattle.grammar.specs.Rules.{Nullable, First, Snf, Reach}
+use Rattle.grammar.specs.Rules.{Nullable, First, Snf}
 use Rattle.grammar.specs.Passing.{Fruitful, Passes}
 use Rattle.grammar.specs.Derivations.{Derives, Lawful, Extends}
 use Rattle.grammar.proofs.Facts.{productive-iff, nullable-iff, first-iff, snf-extends}
@@ -100,23 +100,21 @@ first-means node top k = first-iff
 pub snf-means : (node : ℕ → Node) (top : Node) (k : ℕ) → Snf node top k → Extends node top k
 snf-means node top k = snf-extends
 
--- and at a reachable node of a passed book these are the only such kinds
-pub snf-exactly : {b : Book} → Passes b → (n : ℕ) → Reach (b .node) (b .start) n → (k : ℕ)
-    → Snf (b .node) (b .node n) k ↔ Extends (b .node) (b .node n) k
-snf-exactly passes n reached k = snf-iff passes n reached
+-- and at a node of a passed book these are the only such kinds
+pub snf-exactly : {b : Book} → Passes b → (n k : ℕ) → Snf (b .node) (b .node n) k ↔ Extends (b .node) (b .node n) k
+snf-exactly passes n k = snf-iff passes n
 
 -- Demand 3, of a book that compiling is done with
 module _ {bytes : List ℕ} {room : ℕ} {a : Compiled} {plan : List ℕ} (compiled : Compiles bytes room a plan) (is : a .number ≡ DONE) where
   -- every walk that begins takes its event: on the plan of a passed book no zero is met in a walk, and no walk runs away
-  pub demand-3-walks : (marks : Marks) → Marked (bookOf bytes .node) marks → (n k : ℕ) → Reach (bookOf bytes .node) (bookOf bytes .start) n
+  pub demand-3-walks : (marks : Marks) → Marked (bookOf bytes .node) marks → (n k : ℕ)
       → cellOf marks k n (bookOf bytes .node n) ≢ 0 → (held : List ℕ)
       → (then records : List ℕ) × (walk (planFor (bookOf bytes) marks) unlimited k (bookOf bytes .count) n held ≡ taken then records)
-  demand-3-walks marks marked n k reached some held = walks-take (passed-passes compiled is) marks marked n k reached some held
+  demand-3-walks marks marked n k some held = walks-take (passed-passes compiled is) marks marked n k some held
 
   -- the only derivation there is: any two of one run are equal
-  pub demand-3-one-derivation : (n : ℕ) → Reach (bookOf bytes .node) (bookOf bytes .start) n → {run : List ℕ}
-      (d e : Derives (bookOf bytes .node) (bookOf bytes .node n) run) → d ≡ e
-  demand-3-one-derivation n reached d e = derivation-unique (passed-passes compiled is) n reached d e
+  pub demand-3-one-derivation : (n : ℕ) {run : List ℕ} (d e : Derives (bookOf bytes .node) (bookOf bytes .node n) run) → d ≡ e
+  demand-3-one-derivation n d e = derivation-unique (passed-passes compiled is) n d e
 
   -- and of a reading of its plan
   module _ {run held space : List ℕ} {r : Reading} {held-after tree-after : List ℕ}

@@ -10,7 +10,7 @@ use lib.ListN.{length, getD}
 use Rattle.words.specs.Words.{zeros}
 use Rattle.book.specs.Book.{Book}
 use Rattle.book.specs.Form.{DONE, formOf, bookOf}
-use Rattle.grammar.specs.Passing.{Fruitful, NoConflict}
+use Rattle.grammar.specs.Passing.{AllReached, Fruitful, NoConflict}
 use Rattle.grammar.specs.Derivations.{Lawful}
 use Rattle.running.specs.Running.{DEEP, UNKNOWN, UNEXPECTED, END, RUNAWAY, withSlots, accepted, reading}
 use Rattle.running.specs.Cells.{Marks, Marked, cellOf}
@@ -23,10 +23,10 @@ use Rattle.reader.specs.Numbers.{NO-ROOM, answered}
 use Rattle.reader.specs.Reads.{Reads}
 use Rattle.meaning.specs.Meaning.{tree, Refuses, Ends}
 
--- Demand 1, compiling: the answer is one of 0 to 7, a plan has at most 36,376 bytes, and a refusal leaves the whole
--- plan buffer zero
+-- Demand 1, compiling: the answer is one of 0 to 7 or 22, a plan has at most 36,376 bytes, and a refusal leaves the
+-- whole plan buffer zero
 pub record CompileAnswers (room : ℕ) (a : Compiled) (plan : List ℕ) : Type 0 where
-  pub listed : a .number ≤ 7
+  pub listed : (a .number ≤ 7) ⊎ (a .number ≡ 22)
   pub most : a .size ≤ 36376
   pub whole : length plan ≡ room
   pub refused-zero : a .number ≢ DONE → plan ≡ zeros room
@@ -44,12 +44,12 @@ pub record ReadAnswers (plan run : List ℕ) (slots room : ℕ) (r : Reading) (a
   pub few-records : r .records ≤ (2 * planCount plan - 2) * length run + 1
   pub no-slot : slots ≡ 0 → planJudged plan .number ≡ DONE → length run ≤ 65535 → r ≡ answered DEEP 0 0 0
 
--- Demand 2: given plan room enough, a well-formed book passes exactly when its start can produce some run and no node
--- reachable from the start has a conflict
+-- Demand 2: given plan room enough, a well-formed book passes exactly when every node is reachable from the start, the
+-- start can produce some run, and no node has a conflict
 abbrev pub PassesExactly : List ℕ → ℕ → Compiled → Type 0
 PassesExactly bytes room a =
     formOf bytes .number ≡ DONE → sizeOf (bookOf bytes) ≤ room
-    → (a .number ≡ DONE) ↔ (Fruitful (bookOf bytes) × NoConflict (bookOf bytes))
+    → (a .number ≡ DONE) ↔ (AllReached (bookOf bytes) × Fruitful (bookOf bytes) × NoConflict (bookOf bytes))
 
 -- Demand 2: the plan of a passed book is, cell by cell, the one those rules give: by the marks that are the facts,
 -- which are these only

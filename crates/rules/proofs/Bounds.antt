@@ -7,7 +7,7 @@ use mathlib.Core.Logic.{_⊎_, inl, inr, ⊎-elim}
 use Rattle.book.specs.declared.Node.{Node}
 use Rattle.book.specs.declared.Node.the-variants.{Fail}
 use Rattle.book.specs.Book.{Book, WellFormed, Proper}
-use Rattle.grammar.specs.Rules.{First, Child, either-left, either-right, then-left, then-right, tagged-left, ref-left, Reach}
+use Rattle.grammar.specs.Rules.{First, Conflict, Child, either-left, either-right, then-left, then-right, tagged-left, ref-left, Reach}
 use Rattle.grammar.specs.Rules.{r-start, r-child}
 use Rattle.rules.specs.Step.{leftFrom, rightFrom}
 use Rattle.rules.proofs.Reading.{left-below, right-below}
@@ -42,14 +42,15 @@ module _ (book : Book) (wf : WellFormed book) where
       at (yes below) = below
       at (no beyond) = absurd (none (subst P (wf .beyond n (omega arith)) h))
 
+  -- a node that has a conflict, and one that has a child
+  pub conflict-below : (n : ℕ) → Conflict (book .node) (book .node n) → n < book .count
+  conflict-below = named-below (Conflict (book .node)) (elim [ ])
+
   pub parent-below : (n : ℕ) {m : ℕ} → Child (book .node n) m → n < book .count
   parent-below n {m} = named-below (λ x. Child x m) (elim [ ]) n
 
   pub child-below : (n : ℕ) {m : ℕ} → Child (book .node n) m → m < book .count
   child-below n c = child-within (parent-below n c) (wf .proper n (parent-below n c)) c
-
-  pub reach-below : {n : ℕ} → Reach (book .node) (book .start) n → n < book .count
-  reach-below = reach-within (wf .proper) (wf .start-below)
 
   -- a kind of FIRST is below the number of kinds
   pub first-kind : (n : ℕ) {k : ℕ} → First (book .node) (book .node n) k → k < book .kinds

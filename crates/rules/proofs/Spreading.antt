@@ -1,10 +1,12 @@
 -- Marks that spread from marked nodes to their children: each stands for a reachable node, and where none is new, all of those are marked.
 use Prim.Native.Nat.{ℕ, _+_, _*_, _/_, _%_, _≤_, _<_}
 use mathlib.Core.Path.{_≡_, refl, sym, _∙_, subst}
-use mathlib.Core.Bool.{Bool, true, false, _||_}
+use mathlib.Core.Bool.{Bool, true, false, _||_, not}
 use mathlib.Core.List.{List}
 use mathlib.Core.Logic.{_↔_, ⊎-elim}
 use native.Mathlib.Omega.{arith}
+use native.Mathlib.Decide.{ℕ-discrete}
+use borrow.Author.Tests.{not-false}
 use lib.ListN.{length}
 use Rattle.kinds.specs.Kinds.{Has, onlyKind}
 use Rattle.kinds.proofs.Laws.{has?-is, has-single}
@@ -13,7 +15,7 @@ use Rattle.book.specs.Decode.{nodeAt, nodes, GoodNodes}
 use Rattle.book.specs.declared.Node.{Node}
 use Rattle.book.specs.declared.Node.the-variants.{Fail, Empty, Token, Either, Then, Tagged, Ref}
 use Rattle.grammar.specs.Rules.{Child, either-left, either-right, then-left, then-right, tagged-left, ref-left, Reach, r-start, r-child}
-use Rattle.rules.specs.Facts.{marksSize, marked?, IsMarked, Reached}
+use Rattle.rules.specs.Facts.{marksSize, marked?, IsMarked, AllMarked, Reached}
 use Rattle.rules.specs.Growth.{masks, Sound, Blank, Joined, Grown, Turned}
 use Rattle.rules.specs.Step.{leftFrom, rightFrom, ReachAt, ChildClosed, Spread}
 use Rattle.rules.proofs.Growing.{or-false, grown-none, grown-then, grown-sound, blank-sound, joined-grown, joined-has, joined-held}
@@ -132,6 +134,22 @@ none-spread {node} {marks} unmarked = record {
     closed = λ unchanged. record { children = λ m child marked. absurd (unmarked marked) };
   };
 }
+
+-- ---- all nodes
+
+-- one node more is marked
+pub marked-more : (marks : List ℕ) (n : ℕ) {marked : Bool} → AllMarked marks n → marked ≡ marked? marks n → not marked ≡ false
+    → AllMarked marks (n + 1)
+marked-more marks n before is told m below = go (ℕ-discrete m n)
+  where
+    go : Dec (m ≡ n) → IsMarked marks m
+    go (yes e) = rw e (marked-is marks n .0 (sym is ∙ not-false _ told))
+    go (no f) = before m (omega arith)
+
+-- where all nodes are marked, and all marks stand for reachable nodes, the marks have the reachable nodes
+pub all-reached : {node : ℕ → Node} {start count : ℕ} {marks : List ℕ} → Sound masks (ReachAt node start) marks → AllMarked marks count
+    → Reached node start count marks
+all-reached sound all = record { reach-is = λ n below. (marked-reach sound, (λ reach. all n below)) }
 
 -- ---- all reachable nodes
 

@@ -41,6 +41,10 @@ marked? marks n = has? (getD marks (n / 64) 0) (n % 64)
 pub record IsMarked (marks : List ℕ) (n : ℕ) : Type 0 where
   pub mark : Has (getD marks (n / 64) 0) (n % 64)
 
+-- the marks have all nodes below a count
+abbrev pub AllMarked : List ℕ → ℕ → Type 0
+AllMarked marks count = (n : ℕ) → n < count → IsMarked marks n
+
 -- the marks have the reachable nodes
 pub record Reached (node : ℕ → Node) (start count : ℕ) (marks : List ℕ) : Type 0 where
   pub reach-is : (n : ℕ) → n < count → IsMarked marks n ↔ Reach node start n

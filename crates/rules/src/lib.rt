@@ -1,10 +1,11 @@
 // The rules of figure 5: the facts of a book's nodes, and which of them are reachable.
 ghost use mathlib.Core.Path.{_≡_};
+ghost use mathlib.Core.Bool.{true};
 ghost use Prim.Native.Nat.{_+_, _*_, _/_, _%_, _≤_, _<_};
 ghost use lib.ListN.{length, getD};
 ghost use Rattle.kinds.specs.Kinds.{has?, onlyKind};
 ghost use Rattle.book.specs.Decode.{nodes, GoodNodes};
-ghost use Rattle.rules.specs.Facts.{factsAt, tableSize, marksSize, Facts, marked?, IsMarked, Reached};
+ghost use Rattle.rules.specs.Facts.{factsAt, tableSize, marksSize, Facts, marked?, IsMarked, AllMarked, Reached};
 ghost use Rattle.rules.specs.Growth.{masks, Sound, Blank, Joined, visitedAt};
 ghost use Rattle.rules.specs.Step.{leftFrom, rightFrom, kindOf, eitherFacts, thenFacts, ruledOf, isRef};
 ghost use Rattle.rules.specs.Step.{FactAt, Given, PutAt, Climbed, Spread, SpreadAll, RulesPut};
@@ -310,17 +311,40 @@ fn spread_all(book: &[u8], base: usize, count: usize, downward: bool, marks: &mu
     changed
 }
 
-// Marks the reachable nodes, in marks that are blank: turns, downward and upward by turns, until one changes nothing.
-// Downward comes first, since all but refs have lower children.
-pub fn reach(book: &[u8], base: usize, count: usize, start: usize, marks: &mut [u64])
+// Whether all nodes are marked.
+fn all_marked(count: usize, marks: &[u64]) -> bool
+    requires { ⌜ count ≤ 512 ⌝ }
+    requires { ⌜ marksSize ≤ length (now marks) ⌝ }
+    ensures { λ r. ⌜ (r ≡ true → AllMarked (now (marks .entry)) count) ⌝ }
+{
+    let mut i = 0;
+    while i < count {
+        if !is_marked(marks, i) {
+            return false;
+        }
+        i += 1;
+    }
+    true
+}
+
+// Marks the reachable nodes, in marks that are blank: turns, downward and upward by turns, until all nodes are marked or
+// a turn changes nothing. Downward comes first, since all but refs have lower children. Whether all nodes are marked by
+// then; where a turn changed nothing it says no.
+pub fn reach(book: &[u8], base: usize, count: usize, start: usize, marks: &mut [u64]) -> bool
     requires { ⌜ GoodNodes (now book) base count 64 ⌝ }
     requires { ⌜ start < count ⌝ }
     requires { ⌜ Blank marksSize (now marks) ⌝ }
-    ensures { λ _. ⌜ Reached (nodes (now (book .entry)) base count) start count (now (marks .exit)) ⌝ }
+    ensures { λ r.
+        ⌜ Reached (nodes (now (book .entry)) base count) start count (now (marks .exit))
+        × (r ≡ true → AllMarked (now (marks .exit)) count) ⌝ }
 {
     mark(marks, start);
     let mut downward = true;
     while spread_all(book, base, count, downward, marks) {
+        if all_marked(count, marks) {
+            return true;
+        }
         downward = !downward;
     }
+    false
 }

@@ -1,7 +1,7 @@
 -- Each test of judging, and the verdict that it gives.
 use Prim.Native.Nat.{ℕ, _<_, _≤_}
 use native.Mathlib.Omega.{arith}
-use mathlib.Core.Path.{_≡_, sym, _∙_, subst, subst₂}
+use mathlib.Core.Path.{_≡_, sym, _∙_, subst}
 use mathlib.Core.Bool.{true, false, true≢false}
 use mathlib.Core.List.{List}
 use mathlib.Core.Logic.{_↔_, _≢_}
@@ -12,13 +12,13 @@ use Rattle.book.specs.declared.Judged.{Judged}
 use Rattle.book.specs.Book.{Book, WellFormed}
 use Rattle.book.specs.Form.{DONE, formOf, bookOf}
 use Rattle.grammar.specs.Rules.{Productive}
-use Rattle.grammar.specs.Passing.{Fruitful}
+use Rattle.grammar.specs.Passing.{AllReached, Fruitful}
 use Rattle.rules.specs.Facts.{factsAt}
-use Rattle.rules.proofs.Bounds.{reach-below, first-kind}
-use Rattle.verdict.specs.Judges.{BARREN, CONFLICT, Reported, both-nullable, in-both-first, in-snf-and-first, judgement}
-use Rattle.verdict.specs.Judges.{Judges, malformed, barren, conflict, passes}
-use Rattle.verdict.specs.Conflicts.{Known, Leaves, ConflictAt, LowestReached}
-use Rattle.verdict.proofs.Books.{book-well-formed}
+use Rattle.rules.proofs.Bounds.{first-kind, conflict-below}
+use Rattle.verdict.specs.Judges.{UNUSED, BARREN, CONFLICT, Reported, both-nullable, in-both-first, in-snf-and-first, judgement}
+use Rattle.verdict.specs.Judges.{Judges, malformed, unused, barren, conflict, passes}
+use Rattle.verdict.specs.Conflicts.{GoodBook, Known, Leaves, ConflictAt, Conflicting, Clear, LowestFound, LowestUnused}
+use Rattle.verdict.proofs.Books.{book-well-formed, start-below}
 
 -- 1 to 4: what the form test says
 pub answered-malformed : {bytes table : List ℕ} {form : Judged}
@@ -26,6 +26,18 @@ pub answered-malformed : {bytes table : List ℕ} {form : Judged}
     → form .number ≢ DONE
     → Leaves bytes (judgement (form .number) (form .place) 0) table
 answered-malformed is bad = record { judges = rw is (malformed (rw is at bad)); known = λ done. absurd (bad done) }
+
+module _ {bytes : List ℕ} {count : ℕ} (good : GoodBook bytes count) {n : ℕ} (lowest : LowestUnused (bookOf bytes) count n) where
+  -- 22: the lowest node that is not reachable
+  pub answered-unused : {table : List ℕ} → n < count → Leaves bytes (judgement UNUSED n 0) table
+  answered-unused below = record {
+    judges = unused {n = n} (good .form) (omega (arith, good .count-is)) (lowest .passed) (lowest .found below);
+    known = λ done. absurd (omega arith);
+  }
+
+  -- there is none
+  pub reached-all : count ≤ n → AllReached (bookOf bytes)
+  reached-all none m below = lowest .passed m (omega (arith, good .count-is))
 
 -- a kind that is reported is a byte
 reported-small : (book : Book) → WellFormed book → {x : Node} {k : ℕ} → Reported (book .node) x k → k < 256
@@ -38,41 +50,34 @@ module _ {bytes : List ℕ} {count : ℕ} {table : List ℕ} (known : Known byte
   wf = book-well-formed (known .good)
 
   module _ {start : ℕ} (start-is : start ≡ bookOf bytes .start) where
-    pub start-below : start < count
-    start-below = omega (arith, wf .start-below, known .good .count-is)
-
     fruitful-is : Has (factsAt table start .productive) 0 ↔ Fruitful (bookOf bytes)
     fruitful-is =
         subst (λ n. Has (factsAt table start .productive) 0 ↔ Productive (bookOf bytes .node) (bookOf bytes .node n)) start-is
-        (known .facts .productive-is start 0 start-below (omega arith))
+        (known .facts .productive-is start 0 (start-below (known .good) start-is) (omega arith))
 
     fruitful : has? (factsAt table start .productive) 0 ≡ true → Fruitful (bookOf bytes)
     fruitful has = fruitful-is .0 (has?-is _ 0 .0 has)
 
     -- 5: the start is not productive
-    pub answered-barren : has? (factsAt table start .productive) 0 ≡ false → Judges bytes (judgement BARREN start 0)
-    answered-barren none =
-        rw start-is (barren (known .good .form) (λ is. true≢false (sym (has?-is _ 0 .1 (fruitful-is .1 is)) ∙ none)))
+    pub answered-barren : AllReached (bookOf bytes) → has? (factsAt table start .productive) 0 ≡ false → Judges bytes (judgement BARREN start 0)
+    answered-barren reached none =
+        rw start-is (barren (known .good .form) reached (λ is. true≢false (sym (has?-is _ 0 .1 (fruitful-is .1 is)) ∙ none)))
 
-    module _ {n : ℕ} (lowest : LowestReached (bookOf bytes .node) start count n) where
-      lowest-is : LowestReached (bookOf bytes .node) (bookOf bytes .start) (bookOf bytes .count) n
-      lowest-is = subst₂ (λ s c. LowestReached (bookOf bytes .node) s c n) start-is (known .good .count-is) lowest
-
-      module _ (below : n < count) {kind : ℕ} (found : ConflictAt (bookOf bytes .node) (bookOf bytes .node n) kind) where
+    module _ {n : ℕ} (lowest : LowestFound (Conflicting (bookOf bytes .node)) (Clear (bookOf bytes .node)) count n) where
+      module _ (below : n < count) {kind : ℕ} (told : ConflictAt (bookOf bytes .node) (bookOf bytes .node n) kind) where
         kind-reported : Reported (bookOf bytes .node) (bookOf bytes .node n) kind
-        kind-reported = found .some (λ e. found .none e (lowest .conflict below))
+        kind-reported = told .some (λ e. told .none e (lowest .found below))
 
         pub kind-small : kind < 256
         kind-small = reported-small (bookOf bytes) wf kind-reported
 
-        -- 6: the lowest reachable node that has a conflict
-        pub answered-conflict : has? (factsAt table start .productive) 0 ≡ true → Judges bytes (judgement CONFLICT n kind)
-        answered-conflict has =
-            conflict (known .good .form) (fruitful has) (lowest-is .least) (lowest-is .among (omega (arith, known .good .count-is)))
-            kind-reported
+        -- 6: the lowest node that has a conflict
+        pub answered-conflict : AllReached (bookOf bytes) → has? (factsAt table start .productive) 0 ≡ true
+            → Judges bytes (judgement CONFLICT n kind)
+        answered-conflict reached has = conflict (known .good .form) reached (fruitful has) (lowest .passed) kind-reported
 
-      -- 0: no reachable node has a conflict
-      pub answered-passes : has? (factsAt table start .productive) 0 ≡ true → count ≤ n → Judges bytes (judgement DONE 0 0)
-      answered-passes has none =
-          passes (known .good .form) (fruitful has)
-          (λ m reach. lowest-is .least m (omega (arith, reach-below (bookOf bytes) wf reach, known .good .count-is)) reach)
+      -- 0: no node has a conflict
+      pub answered-passes : AllReached (bookOf bytes) → has? (factsAt table start .productive) 0 ≡ true → count ≤ n
+          → Judges bytes (judgement DONE 0 0)
+      answered-passes reached has none =
+          passes (known .good .form) reached (fruitful has) (λ m c. lowest .passed m (omega (arith, conflict-below (bookOf bytes) wf m c, known .good .count-is)) c)

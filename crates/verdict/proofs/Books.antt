@@ -50,6 +50,9 @@ module _ {bytes : List ℕ} {count : ℕ} (good : GoodBook bytes count) where
   pub count-small : count ≤ 512
   count-small = omega (arith, book-well-formed .few-nodes, good .count-is)
 
+  pub start-below : {start : ℕ} → start ≡ bookOf bytes .start → start < count
+  start-below is = omega (arith, book-well-formed .start-below, good .count-is)
+
   -- its nodes, as they are read, are good
   pub nodes-good : GoodNodes bytes nodesAt count 64
   unfolding bookOf

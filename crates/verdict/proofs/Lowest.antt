@@ -1,89 +1,74 @@
--- The lowest node that has a conflict: node by node, among the marked ones, and so among the reachable ones.
+-- The lowest number at which something is found: number by number. Where the marks have the reachable nodes, the lowest node that is not
+-- marked is the lowest that is not reachable.
 use Prim.Native.Nat.{ℕ, _+_, _≤_, _<_}
-use mathlib.Core.Path.{_≡_, sym, _∙_, subst}
-use mathlib.Core.Bool.{Bool, true, false, _&&_, not, true≢false, false≢true}
+use mathlib.Core.Path.{_≡_, sym, subst, _∙_}
+use mathlib.Core.Bool.{Bool, true, false, not, true≢false}
 use mathlib.Core.List.{List}
 use native.Mathlib.Decide.{ℕ-discrete}
 use native.Mathlib.Omega.{arith}
-use borrow.Author.Tests.{eq-eqb, ne-eqb}
+use borrow.Author.Tests.{eq-eqb, ne-eqb, not-true, not-false}
 use lib.Dec.{eqb}
 use Rattle.book.specs.declared.Node.{Node}
+use Rattle.book.specs.Book.{Book}
 use Rattle.book.specs.Decode.{nodes}
 use Rattle.book.specs.Form.{nodesAt, bookOf}
-use Rattle.grammar.specs.Rules.{Conflict}
-use Rattle.rules.specs.Facts.{marked?, IsMarked, Reached}
+use Rattle.rules.specs.Facts.{marked?, IsMarked, AllMarked, Reached}
 use Rattle.rules.proofs.Spreading.{marked-is}
-use Rattle.verdict.specs.Conflicts.{GoodBook, NO-CONFLICT, ConflictAt, Conflicting, LowestConflict, LowestReached}
+use Rattle.verdict.specs.Conflicts.{GoodBook, NO-CONFLICT, ConflictAt, Conflicting, Clear, Found, LowestFound, LowestUnmarked, LowestUnused}
 use Rattle.verdict.proofs.Books.{look-up}
 use Rattle.verdict.proofs.Unique.{reported-conflict}
 
--- whether a node is marked and has a conflict, by its mark and the kind reported
-pub conflicting-is : {node : ℕ → Node} {marks : List ℕ} {n kind : ℕ} {marked : Bool} → marked ≡ marked? marks n
-    → ConflictAt node (node n) kind → Conflicting node (IsMarked marks) n (marked && not (eqb kind NO-CONFLICT))
-conflicting-is {node} {marks} {n} {kind} {marked} told answer = go marked (ℕ-discrete kind NO-CONFLICT) told
-  where
-    go : (marked : Bool) → Dec (kind ≡ NO-CONFLICT) → marked ≡ marked? marks n
-        → Conflicting node (IsMarked marks) n (marked && not (eqb kind NO-CONFLICT))
-    go true (yes e) is = rw (eq-eqb _ _ e) (record {
-      among = λ q. absurd (false≢true q);
-      conflict = λ q. absurd (false≢true q);
-      clear = λ q here. answer .none e;
-    })
-    go true (no f) is = rw (ne-eqb _ _ f) (record {
-      among = λ q. marked-is _ _ .0 (sym is);
-      conflict = λ q. reported-conflict (answer .some f);
-      clear = λ q. absurd (true≢false q);
-    })
-    go false d is = record {
-      among = λ q. absurd (false≢true q);
-      conflict = λ q. absurd (false≢true q);
-      clear = λ q here. absurd (false≢true (is ∙ marked-is _ _ .1 here));
-    }
-
--- no node among some and below a number has a conflict
-pub record NonePassed (node : ℕ → Node) (Among : ℕ → Type 0) (count n : ℕ) : Type 0 where
+-- all numbers below one are passed
+pub record Passed (Not : ℕ → Type 0) (count n : ℕ) : Type 0 where
   pub within : n ≤ count
-  pub clear : (m : ℕ) → m < n → Among m → Conflict node (node m) → ⊥
+  pub passed : (m : ℕ) → m < n → Not m
 
-module _ {node : ℕ → Node} {Among : ℕ → Type 0} {count : ℕ} where
-  pub passed-none : NonePassed node Among count 0
-  passed-none = record { within = omega arith; clear = λ m l. absurd (omega arith) }
+pub passed-none : {Not : ℕ → Type 0} {count : ℕ} → Passed Not count 0
+passed-none = record { within = omega arith; passed = λ m l. absurd (omega arith) }
 
-  pub passed-more : {n : ℕ} {answer : Bool} → NonePassed node Among count n → n < count → Conflicting node Among n answer → answer ≡ false
-      → NonePassed node Among count (n + 1)
-  passed-more {n} clear below answer is = record { within = omega arith; clear = λ m l. go m l (ℕ-discrete m n) }
+module _ {Of Not : ℕ → Type 0} {count n : ℕ} (before : Passed Not count n) where
+  pub passed-more : {answer : Bool} → n < count → Found Of Not n answer → answer ≡ false → Passed Not count (n + 1)
+  passed-more below told is = record { within = omega arith; passed = λ m l. go m l (ℕ-discrete m n) }
     where
-      go : (m : ℕ) → m < n + 1 → Dec (m ≡ n) → Among m → Conflict node (node m) → ⊥
-      go m l (yes e) = rw e (answer .clear is)
-      go m l (no f) = clear .clear m (omega arith)
+      go : (m : ℕ) → m < n + 1 → Dec (m ≡ n) → Not m
+      go m l (yes e) = rw e (told .passed is)
+      go m l (no f) = before .passed m (omega arith)
 
-  pub passed-found : {n : ℕ} {answer : Bool} → NonePassed node Among count n → Conflicting node Among n answer → answer ≡ true
-      → LowestConflict node Among count n
-  passed-found clear answer is = record {
-    within = clear .within;
-    among = λ l. answer .among is;
-    conflict = λ l. answer .conflict is;
-    least = clear .clear;
-  }
+  pub passed-found : {answer : Bool} → Found Of Not n answer → answer ≡ true → LowestFound Of Not count n
+  passed-found told is = record { within = before .within; found = λ l. told .found is; passed = before .passed }
 
-  pub passed-all : {n : ℕ} → NonePassed node Among count n → count ≤ n → LowestConflict node Among count n
-  passed-all clear end = record {
-    within = clear .within;
-    among = λ l. absurd (omega arith);
-    conflict = λ l. absurd (omega arith);
-    least = clear .clear;
-  }
+  pub passed-all : count ≤ n → LowestFound Of Not count n
+  passed-all end = record { within = before .within; found = λ l. absurd (omega arith); passed = before .passed }
 
--- where the marks have the reachable nodes of a book, the lowest marked conflict is the lowest reachable one
-pub lowest-reached : {bytes marks : List ℕ} {count start n : ℕ} → GoodBook bytes count
-    → Reached (nodes bytes nodesAt count) start count marks → LowestConflict (bookOf bytes .node) (IsMarked marks) count n
-    → LowestReached (bookOf bytes .node) start count n
-lowest-reached {bytes} {marks} {count} {start} {n} good marked lowest = record {
+-- whether a node has a conflict, by the kind reported
+pub conflicting-is : {node : ℕ → Node} {n kind : ℕ} → ConflictAt node (node n) kind
+    → Found (Conflicting node) (Clear node) n (not (eqb kind NO-CONFLICT))
+conflicting-is {node} {n} {kind} told = go (ℕ-discrete kind NO-CONFLICT)
+  where
+    go : Dec (kind ≡ NO-CONFLICT) → Found (Conflicting node) (Clear node) n (not (eqb kind NO-CONFLICT))
+    go (yes e) = rw (eq-eqb _ _ e) (record { found = λ q. absurd (true≢false (sym q)); passed = λ q. told .none e })
+    go (no f) = rw (ne-eqb _ _ f) (record { found = λ q. reported-conflict (told .some f); passed = λ q. absurd (true≢false q) })
+
+-- whether a node is not marked, by its mark
+pub unmarked-is : {marks : List ℕ} {n : ℕ} {marked : Bool} → marked ≡ marked? marks n
+    → Found (λ n. IsMarked marks n → ⊥) (IsMarked marks) n (not marked)
+unmarked-is {marks} {n} is = record {
+  found = λ q here. absurd (true≢false (sym (is ∙ marked-is _ _ .1 here) ∙ not-true _ q));
+  passed = λ q. marked-is _ _ .0 (sym is ∙ not-false _ q);
+}
+
+-- all nodes are marked
+pub unmarked-none : {marks : List ℕ} {count : ℕ} → AllMarked marks count → LowestUnmarked marks count count
+unmarked-none all = record { within = omega arith; found = λ l. absurd (omega arith); passed = all }
+
+-- where the marks have the reachable nodes of a book, the lowest node that is not marked is the lowest that is not reachable
+pub unused-is : {bytes marks : List ℕ} {count start n : ℕ} → GoodBook bytes count → start ≡ bookOf bytes .start
+    → Reached (nodes bytes nodesAt count) start count marks → LowestUnmarked marks count n → LowestUnused (bookOf bytes) count n
+unused-is {bytes} {marks} {count} {start} {n} good start-is marked lowest = record {
   within = lowest .within;
-  among = λ l. reached .reach-is n l .0 (lowest .among l);
-  conflict = lowest .conflict;
-  least = λ m l reach. lowest .least m l (reached .reach-is m (omega (arith, lowest .within)) .1 reach);
+  found = λ l reach. lowest .found l (reached .reach-is n l .1 reach);
+  passed = λ m l. reached .reach-is m (omega (arith, lowest .within)) .0 (lowest .passed m l);
 }
   where
-    reached : Reached (bookOf bytes .node) start count marks
-    reached = subst (λ node. Reached node start count marks) (look-up good) marked
+    reached : Reached (bookOf bytes .node) (bookOf bytes .start) count marks
+    reached = rw (← start-is) (subst (λ node. Reached node start count marks) (look-up good) marked)

@@ -2,14 +2,14 @@
 use Prim.Native.Nat.{ℕ, _≤_}
 use native.Mathlib.Omega.{arith}
 use mathlib.Core.Path.{_≡_, refl, subst}
-use mathlib.Core.Logic.{_↔_}
+use mathlib.Core.Logic.{_↔_, _⊎_, inl, inr}
 use mathlib.Core.List.{List}
 use Rattle.book.specs.Form.{DONE, formOf, bookOf}
 use Rattle.book.proofs.Laws.{form-listed}
 use Rattle.book.proofs.Decoded.{formed, well-formed}
-use Rattle.grammar.specs.Passing.{Fruitful, NoConflict, Passes}
+use Rattle.grammar.specs.Passing.{AllReached, Fruitful, NoConflict, Passes}
 use Rattle.verdict.specs.declared.Verdict.{Verdict}
-use Rattle.verdict.specs.Judges.{CONFLICT, judgement, Judges, malformed, barren, conflict, passes}
+use Rattle.verdict.specs.Judges.{UNUSED, CONFLICT, judgement, Judges, malformed, unused, barren, conflict, passes}
 use Rattle.verdict.proofs.Unique.{reported-conflict}
 
 -- what is so of a verdict that a book passes
@@ -21,12 +21,18 @@ pub record Passed (bytes : List ℕ) (v : Verdict) : Type 0 where
 module _ {bytes : List ℕ} where
   pub passed : {v : Verdict} → Judges bytes v → v .number ≡ DONE → Passed bytes v
   passed (malformed bad) is = absurd (bad is)
-  passed (barren _ _) is = absurd (omega arith)
+  passed (unused _ _ _ _) is = absurd (omega arith)
+  passed (barren _ _ _) is = absurd (omega arith)
   passed (conflict _ _ _ _ _) is = absurd (omega arith)
-  passed (passes good fruitful none) is =
+  passed (passes good reached fruitful none) is =
       record {
         form = good;
-        by-rules = record { well-formed = well-formed (formed bytes good); productive = fruitful; no-conflict = none };
+        by-rules = record {
+          well-formed = well-formed (formed bytes good);
+          all-reached = reached;
+          productive = fruitful;
+          no-conflict = none;
+        };
         verdict-is = refl;
       }
 
@@ -34,21 +40,23 @@ module _ {bytes : List ℕ} where
   pub passed-judges : {v : Verdict} → Judges bytes v → v .number ≡ DONE → Judges bytes (judgement DONE 0 0)
   passed-judges judges is = subst (Judges bytes) (passed judges is .verdict-is) judges
 
-  -- a book of good form passes exactly when its start can produce some run and no reachable node has a conflict
+  -- a book of good form passes exactly when every node is reachable, its start can produce some run and no node has a conflict
   pub passes-exactly : {v : Verdict} → Judges bytes v → formOf bytes .number ≡ DONE
-      → (v .number ≡ DONE) ↔ (Fruitful (bookOf bytes) × NoConflict (bookOf bytes))
+      → (v .number ≡ DONE) ↔ (AllReached (bookOf bytes) × Fruitful (bookOf bytes) × NoConflict (bookOf bytes))
   passes-exactly judges good =
-      (λ is. let by-rules = passed judges is .by-rules in (by-rules .productive, by-rules .no-conflict), by judges)
+      (λ is. let by-rules = passed judges is .by-rules in (by-rules .all-reached, by-rules .productive, by-rules .no-conflict), by judges)
     where
-      by : {v : Verdict} → Judges bytes v → Fruitful (bookOf bytes) × NoConflict (bookOf bytes) → v .number ≡ DONE
+      by : {v : Verdict} → Judges bytes v → AllReached (bookOf bytes) × Fruitful (bookOf bytes) × NoConflict (bookOf bytes) → v .number ≡ DONE
       by (malformed bad) h = absurd (bad good)
-      by (barren _ bare) h = absurd (bare (h .0))
-      by (conflict _ _ _ reach shared) h = absurd (h .1 _ reach (reported-conflict shared))
-      by (passes _ _ _) h = refl
+      by (unused _ within _ not) h = absurd (not (h .0 _ within))
+      by (barren _ _ bare) h = absurd (bare (h .1))
+      by (conflict _ _ _ _ shared) h = absurd (h .2 _ (reported-conflict shared))
+      by (passes _ _ _ _) h = refl
 
-  -- every verdict's number is on the list: 0 to 6
-  pub verdict-listed : {v : Verdict} → Judges bytes v → v .number ≤ CONFLICT
-  verdict-listed (malformed _) = omega (arith, form-listed bytes)
-  verdict-listed (barren _ _) = omega arith
-  verdict-listed (conflict _ _ _ _ _) = omega arith
-  verdict-listed (passes _ _ _) = omega arith
+  -- every verdict's number is on the list: 0 to 6, and 22
+  pub verdict-listed : {v : Verdict} → Judges bytes v → (v .number ≤ CONFLICT) ⊎ (v .number ≡ UNUSED)
+  verdict-listed (malformed _) = inl (omega (arith, form-listed bytes))
+  verdict-listed (unused _ _ _ _) = inr refl
+  verdict-listed (barren _ _ _) = inl (omega arith)
+  verdict-listed (conflict _ _ _ _ _) = inl (omega arith)
+  verdict-listed (passes _ _ _ _) = inl (omega arith)

@@ -1,7 +1,7 @@
 -- Judging has an answer, for all bytes, and it computes.
 use Prim.Native.Nat.{ℕ, zero, suc, _<_}
 use native.Mathlib.Omega.{arith}
-use native.Mathlib.Decide.{decLt, ℕ-discrete}
+use native.Mathlib.Decide.{ℕ-discrete}
 use mathlib.Core.Path.{_≡_, refl}
 use mathlib.Core.Bool.{Bool, true, false}
 use mathlib.Core.List.{List}
@@ -13,15 +13,14 @@ use Rattle.book.specs.Book.{Book, WellFormed}
 use Rattle.book.specs.Form.{DONE, formOf, bookOf}
 use Rattle.book.proofs.Decoded.{formed, well-formed}
 use Rattle.grammar.specs.Rules.{Nullable, First, Snf, Conflict, c-nullable, c-first, c-follow, Reach}
-use Rattle.grammar.specs.Passing.{Fruitful}
-use Rattle.rules.proofs.Bounds.{reach-below, first-kind}
+use Rattle.grammar.specs.Passing.{AllReached, Fruitful}
+use Rattle.rules.proofs.Bounds.{first-kind, conflict-below}
 use Rattle.rules.proofs.Least.{Decided}
 use Rattle.rules.proofs.Marks.{productive-decided, nullable-decided, first-decided, snf-decided}
 use Rattle.rules.proofs.Reaching.{reach-decided}
 use Rattle.verdict.specs.declared.Verdict.{Verdict}
 use Rattle.verdict.specs.Judges.{Lowest, Reported, both-nullable, in-both-first, in-snf-and-first, Judges, malformed}
-use Rattle.verdict.specs.Judges.{barren, conflict, passes}
-use Rattle.verdict.proofs.Unique.{reported-conflict}
+use Rattle.verdict.specs.Judges.{unused, barren, conflict, passes}
 
 unfoldable pub decide : {Of : ℕ → Type 0} → Decided Of → (i : ℕ) → Dec (Of i)
 decide {Of} d i = at (d .test i) (d .test-is i)
@@ -35,22 +34,30 @@ decide-both (yes a) (yes b) = yes (a, b)
 decide-both (yes a) (no g) = no (λ h. g (h .1))
 decide-both (no f) b = no (λ h. f (h .0))
 
--- the lowest number below a bound of which something holds, or that there is none
-unfoldable pub lowest : {P : ℕ → Type 0} → ((n : ℕ) → Dec (P n)) → (bound : ℕ) → ((n : ℕ) × Lowest P n) ⊎ ((m : ℕ) → m < bound → P m → ⊥)
-lowest {P} d zero = inr (λ m below. absurd (omega arith))
-lowest {P} d (suc n) = ⊎-elim inl (λ none. at none (d n)) (lowest d n)
-  where
-    at : ((m : ℕ) → m < n → P m → ⊥) → Dec (P n) → ((n : ℕ) × Lowest P n) ⊎ ((m : ℕ) → m < suc n → P m → ⊥)
-    at none (yes here) = inl (n, record { holds = here; least = none })
-    at none (no f) = inr (λ m below h. last m below h (ℕ-discrete m n))
-      where
-        last : (m : ℕ) → m < suc n → P m → Dec (m ≡ n) → ⊥
-        last m below h (yes e) = f (rw e at h)
-        last m below h (no other) = none m (omega arith) h
+-- something holds or does not
+unfoldable pub either-way : {A : Type 0} → Dec A → A ⊎ (A → ⊥)
+either-way (yes a) = inl a
+either-way (no f) = inr f
 
--- a reachable node that has a conflict
-abbrev pub Clashing : Book → ℕ → Type 0
-Clashing book n = Reach (book .node) (book .start) n × Conflict (book .node) (book .node n)
+unfoldable pub other-way : {A : Type 0} → Dec A → (A → ⊥) ⊎ A
+other-way (yes a) = inr a
+other-way (no f) = inl f
+
+-- the lowest number below a count at which something is found, where all below it are passed, or that there is none
+unfoldable pub search : {Of Not : ℕ → Type 0} → ((n : ℕ) → Of n ⊎ Not n) → (count : ℕ)
+    → ((n : ℕ) × (n < count) × Of n × ((m : ℕ) → m < n → Not m)) ⊎ ((m : ℕ) → m < count → Not m)
+search {Of} {Not} d zero = inr (λ m below. absurd (omega arith))
+search {Of} {Not} d (suc count) =
+    ⊎-elim (λ found. inl (found .0, omega (arith, found .1), found .2, found .3)) (λ none. at none (d count)) (search d count)
+  where
+    at : ((m : ℕ) → m < count → Not m) → Of count ⊎ Not count
+        → ((n : ℕ) × (n < suc count) × Of n × ((m : ℕ) → m < n → Not m)) ⊎ ((m : ℕ) → m < suc count → Not m)
+    at none (inl here) = inl (count, omega arith, here, none)
+    at none (inr not) = inr (λ m below. last m below (ℕ-discrete m count))
+      where
+        last : (m : ℕ) → m < suc count → Dec (m ≡ count) → Not m
+        last m below (yes e) = rw e not
+        last m below (no other) = none m (omega arith)
 
 module _ (book : Book) (wf : WellFormed book) where
   unfoldable pub null? : (n : ℕ) → Dec (Nullable (book .node) (book .node n))
@@ -64,8 +71,9 @@ module _ (book : Book) (wf : WellFormed book) where
       → ((k : ℕ) × Lowest (λ j. P j × First (book .node) (book .node n) j) k)
       ⊎ ((k : ℕ) → P k → First (book .node) (book .node n) k → ⊥)
   shared? P p? n =
-      ⊎-elim inl (λ none. inr (λ k p f. none k (first-kind book wf n f) (p, f)))
-      (lowest (λ k. decide-both (p? k) (first? n k)) (book .kinds))
+      ⊎-elim (λ found. inl (found .0, record { holds = found .2; least = found .3 }))
+      (λ none. inr (λ k p f. none k (first-kind book wf n f) (p, f)))
+      (search (λ k. either-way (decide-both (p? k) (first? n k))) (book .kinds))
 
   -- a node has a conflict, with a kind to report, or none
   unfoldable pub reported? : (x : Node) → ((k : ℕ) × Reported (book .node) x k) ⊎ (Conflict (book .node) x → ⊥)
@@ -98,10 +106,9 @@ module _ (book : Book) (wf : WellFormed book) where
   reported? (Tagged l a) = inr (elim [ ])
   reported? (Ref l) = inr (elim [ ])
 
-  unfoldable pub conflict? : (n : ℕ) → Dec (Clashing book n)
-  conflict? n =
-      decide-both (decide (reach-decided book wf) n)
-      (⊎-elim (λ found. yes (reported-conflict (found .1))) no (reported? (book .node n)))
+  -- a node is not reachable from the start, or is
+  unfoldable pub unreached? : (n : ℕ) → (Reach (book .node) (book .start) n → ⊥) ⊎ Reach (book .node) (book .start) n
+  unreached? n = other-way (decide (reach-decided book wf) n)
 
 module _ (bytes : List ℕ) where
   -- a verdict that judging may come to
@@ -112,23 +119,26 @@ module _ (bytes : List ℕ) where
     pub wf : WellFormed (bookOf bytes)
     wf = well-formed (formed bytes good)
 
-    unfoldable pub judged-fruitful : Fruitful (bookOf bytes)
-        → ((n : ℕ) × Lowest (Clashing (bookOf bytes)) n) ⊎ ((m : ℕ) → m < bookOf bytes .count → Clashing (bookOf bytes) m → ⊥) → Judgement
-    judged-fruitful fruitful (inl (n, lowest)) =
-        ⊎-elim
-        (λ found. (_, conflict good fruitful (λ m below reach c. lowest .least m below (reach, c)) (lowest .holds .0) (found .1)))
-        (λ none. absurd (none (lowest .holds .1)))
-        (reported? (bookOf bytes) wf (bookOf bytes .node n))
-    judged-fruitful fruitful (inr none) =
-        (_, passes good fruitful (λ m reach c. none m (reach-below (bookOf bytes) wf reach) (reach, c)))
+    module _ (reached : AllReached (bookOf bytes)) where
+      unfoldable pub judged-fruitful : Fruitful (bookOf bytes) → Judgement
+      judged-fruitful fruitful =
+          ⊎-elim (λ found. (_, conflict good reached fruitful (found .3) (found .2 .1)))
+          (λ none. (_, passes good reached fruitful (λ m c. none m (conflict-below (bookOf bytes) wf m c) c)))
+          (search (λ n. reported? (bookOf bytes) wf (bookOf bytes .node n)) (bookOf bytes .count))
 
-    unfoldable pub judged-start : Dec (Fruitful (bookOf bytes)) → Judgement
-    judged-start (no bare) = (_, barren good bare)
-    judged-start (yes fruitful) = judged-fruitful fruitful (lowest (conflict? (bookOf bytes) wf) (bookOf bytes .count))
+      unfoldable pub judged-start : Dec (Fruitful (bookOf bytes)) → Judgement
+      judged-start (no bare) = (_, barren good reached bare)
+      judged-start (yes fruitful) = judged-fruitful fruitful
+
+    unfoldable pub judged-good : Judgement
+    judged-good =
+        ⊎-elim (λ found. (_, unused good (found .1) (found .3) (found .2)))
+        (λ reached. judged-start reached (decide (productive-decided (bookOf bytes) wf) (bookOf bytes .start)))
+        (search (unreached? (bookOf bytes) wf) (bookOf bytes .count))
 
   unfoldable pub judged-form : Dec (formOf bytes .number ≡ DONE) → Judgement
   judged-form (no bad) = (_, malformed bad)
-  judged-form (yes good) = judged-start good (decide (productive-decided (bookOf bytes) (wf good)) (bookOf bytes .start))
+  judged-form (yes good) = judged-good good
 
   -- judging has an answer
   unfoldable pub judges-some : (v : Verdict) × Judges bytes v

@@ -1,4 +1,5 @@
--- What the functions that judge a book answer: the facts in a table, the kind reported at a node, the lowest conflict.
+-- What the functions that judge a book answer: the facts in a table, the lowest node that is not reachable, the kind
+-- reported at a node, the lowest conflict.
 use Prim.Native.Nat.{ℕ, _≤_, _<_}
 use mathlib.Core.Path.{_≡_}
 use mathlib.Core.Bool.{Bool, true, false, cond}
@@ -9,10 +10,11 @@ use lib.ListN.{length}
 use Rattle.kinds.specs.Kinds.{inBoth, lowestKind}
 use Rattle.book.specs.declared.Node.{Node}
 use Rattle.book.specs.declared.Node.the-variants.{Fail, Empty, Token, Either, Then, Tagged, Ref}
+use Rattle.book.specs.Book.{Book}
 use Rattle.book.specs.Form.{DONE, formOf, bookOf}
 use Rattle.grammar.specs.Rules.{Conflict, Reach}
 use Rattle.rules.specs.declared.NodeFacts.{NodeFacts}
-use Rattle.rules.specs.Facts.{tableSize, Facts}
+use Rattle.rules.specs.Facts.{tableSize, Facts, IsMarked}
 use Rattle.verdict.specs.declared.Verdict.{Verdict}
 use Rattle.verdict.specs.Judges.{BOTH-NULLABLE, Reported, Judges}
 
@@ -59,19 +61,27 @@ pub record ConflictAt (node : ℕ → Node) (at : Node) (kind : ℕ) : Type 0 wh
   pub some : kind ≢ NO-CONFLICT → Reported node at kind
   pub none : kind ≡ NO-CONFLICT → Conflict node at → ⊥
 
--- whether a node is among some and has a conflict
-pub record Conflicting (node : ℕ → Node) (Among : ℕ → Type 0) (n : ℕ) (answer : Bool) : Type 0 where
-  pub among : answer ≡ true → Among n
-  pub conflict : answer ≡ true → Conflict node (node n)
-  pub clear : answer ≡ false → Among n → Conflict node (node n) → ⊥
+-- whether something is found at a number, where not it is passed
+pub record Found (Of Not : ℕ → Type 0) (n : ℕ) (answer : Bool) : Type 0 where
+  pub found : answer ≡ true → Of n
+  pub passed : answer ≡ false → Not n
 
--- the lowest node among some that has a conflict, the count where none has one
-pub record LowestConflict (node : ℕ → Node) (Among : ℕ → Type 0) (count n : ℕ) : Type 0 where
+-- the lowest number at which something is found, the count where there is none
+pub record LowestFound (Of Not : ℕ → Type 0) (count n : ℕ) : Type 0 where
   pub within : n ≤ count
-  pub among : n < count → Among n
-  pub conflict : n < count → Conflict node (node n)
-  pub least : (m : ℕ) → m < n → Among m → Conflict node (node m) → ⊥
+  pub found : n < count → Of n
+  pub passed : (m : ℕ) → m < n → Not m
 
--- the lowest node reachable from a start that has a conflict, the count where none has one
-abbrev pub LowestReached : (ℕ → Node) → ℕ → ℕ → ℕ → Type 0
-LowestReached node start = LowestConflict node (Reach node start)
+-- a node with a conflict, and one without
+abbrev pub Conflicting : (ℕ → Node) → ℕ → Type 0
+Conflicting node n = Conflict node (node n)
+
+abbrev pub Clear : (ℕ → Node) → ℕ → Type 0
+Clear node n = Conflict node (node n) → ⊥
+
+-- the lowest node that is not marked, and the lowest that is not reachable from the start
+abbrev pub LowestUnmarked : List ℕ → ℕ → ℕ → Type 0
+LowestUnmarked marks = LowestFound (λ n. IsMarked marks n → ⊥) (IsMarked marks)
+
+abbrev pub LowestUnused : Book → ℕ → ℕ → Type 0
+LowestUnused book = LowestFound (λ n. Reach (book .node) (book .start) n → ⊥) (Reach (book .node) (book .start))

@@ -1,13 +1,14 @@
-// Judging a book: numbers 0 to 6.
+// Judging a book: numbers 0 to 6 and 22.
 ghost use mathlib.Core.Path.{_≡_};
 ghost use Prim.Native.Nat.{_<_, _≤_, _^_};
 ghost use lib.ListN.{length};
 ghost use Rattle.book.specs.Form.{DONE, countOf, formOf, bookOf};
-ghost use Rattle.rules.specs.Facts.{tableSize, marksSize, IsMarked};
+ghost use Rattle.grammar.specs.Passing.{AllReached};
+ghost use Rattle.rules.specs.Facts.{tableSize, marksSize};
 ghost use Rattle.rules.specs.Growth.{Blank};
 ghost use Rattle.verdict.specs.Judges.{judgement, Judges};
-ghost use Rattle.verdict.specs.Conflicts.{Known, Leaves, EitherReport, reportedOf};
-ghost use Rattle.verdict.specs.Conflicts.{ConflictAt, Conflicting, LowestConflict, LowestReached};
+ghost use Rattle.verdict.specs.Conflicts.{GoodBook, Known, Leaves, EitherReport, reportedOf, ConflictAt};
+ghost use Rattle.verdict.specs.Conflicts.{Found, LowestFound, Conflicting, Clear, LowestUnmarked, LowestUnused};
 use book::DONE;
 use book::NODES_AT;
 use book::Node;
@@ -19,6 +20,8 @@ use words::u16_at;
 pub const BARREN: u32 = 5;
 
 pub const CONFLICT: u32 = 6;
+
+pub const UNUSED: u32 = 22;
 
 // What is answered for a node without a conflict.
 const NO_CONFLICT: usize = 64;
@@ -85,26 +88,23 @@ fn conflict_at(book: &[u8], count: usize, n: usize, table: &[u64]) -> usize
     reported(node, left, right)
 }
 
-// Whether a node is marked and has a conflict.
-fn conflicting(book: &[u8], count: usize, n: usize, table: &[u64], marks: &[u64]) -> bool
+// Whether a node has a conflict.
+fn conflicting(book: &[u8], count: usize, n: usize, table: &[u64]) -> bool
     requires { ⌜ Known (now book) count (now table) ⌝ }
     requires { ⌜ n < count ⌝ }
-    requires { ⌜ marksSize ≤ length (now marks) ⌝ }
-    ensures { λ r. ⌜ Conflicting (bookOf (now (book .entry)) .node) (IsMarked (now (marks .entry))) n r ⌝ }
+    ensures { λ r. ⌜ Found (Conflicting (bookOf (now (book .entry)) .node)) (Clear (bookOf (now (book .entry)) .node)) n r ⌝ }
 {
-    let kind = conflict_at(book, count, n, table);
-    rules::is_marked(marks, n) & (kind != NO_CONFLICT)
+    conflict_at(book, count, n, table) != NO_CONFLICT
 }
 
-// The lowest marked node that has a conflict, or the count where none has one.
-fn lowest_marked(book: &[u8], count: usize, table: &[u64], marks: &[u64]) -> usize
+// The lowest node that has a conflict, or the count where none has one.
+fn lowest_conflict(book: &[u8], count: usize, table: &[u64]) -> usize
     requires { ⌜ Known (now book) count (now table) ⌝ }
-    requires { ⌜ marksSize ≤ length (now marks) ⌝ }
-    ensures { λ r. ⌜ LowestConflict (bookOf (now (book .entry)) .node) (IsMarked (now (marks .entry))) count r ⌝ }
+    ensures { λ r. ⌜ LowestFound (Conflicting (bookOf (now (book .entry)) .node)) (Clear (bookOf (now (book .entry)) .node)) count r ⌝ }
 {
     let mut n = 0;
     while n < count {
-        if conflicting(book, count, n, table, marks) {
+        if conflicting(book, count, n, table) {
             return n;
         }
         n += 1;
@@ -112,26 +112,10 @@ fn lowest_marked(book: &[u8], count: usize, table: &[u64], marks: &[u64]) -> usi
     n
 }
 
-// The lowest reachable node that has a conflict, the count where none has one, with blank marks for reachable nodes.
-fn lowest_conflict(
-    book: &[u8],
-    count: usize,
-    start: usize,
-    table: &[u64],
-    marks: &mut [u64],
-) -> usize
-    requires { ⌜ Known (now book) count (now table) ⌝ }
-    requires { ⌜ start ≡ bookOf (now book) .start ⌝ }
-    requires { ⌜ Blank marksSize (now marks) ⌝ }
-    ensures { λ r. ⌜ LowestReached (bookOf (now (book .entry)) .node) start count r ⌝ }
-{
-    rules::reach(book, NODES_AT, count, start, marks);
-    lowest_marked(book, count, table, marks)
-}
-
-// Judges a book of good form, with its facts at hand: BARREN, CONFLICT, or that it passes.
+// Judges a book of good form whose nodes are all reachable, with its facts at hand: BARREN, CONFLICT, or that it passes.
 fn judge_known(book: &[u8], count: usize, table: &[u64]) -> Verdict
     requires { ⌜ Known (now book) count (now table) ⌝ }
+    requires { ⌜ AllReached (bookOf (now book)) ⌝ }
     ensures { λ r. ⌜ Judges (now (book .entry)) r ⌝ }
 {
     let start = u16_at(book, SETTINGS_AT + 2);
@@ -139,8 +123,7 @@ fn judge_known(book: &[u8], count: usize, table: &[u64]) -> Verdict
     if !kinds::has(facts.productive, 0) {
         return verdict_of(BARREN, start, 0);
     }
-    let mut marks = [0u64; rules::MARKS];
-    let n = lowest_conflict(book, count, start, table, &mut marks);
+    let n = lowest_conflict(book, count, table);
     if n < count {
         let kind = conflict_at(book, count, n, table);
         return verdict_of(CONFLICT, n, kind);
@@ -148,8 +131,37 @@ fn judge_known(book: &[u8], count: usize, table: &[u64]) -> Verdict
     verdict_of(DONE, 0, 0)
 }
 
-// Judges a book, for any bytes: the first of 1 to 6, or that it passes, with its facts in the table. Where the form is
-// good the table is blank and long enough.
+// The lowest node that is not marked, or the count where all are.
+fn lowest_unmarked(count: usize, marks: &[u64]) -> usize
+    requires { ⌜ count ≤ 512 ⌝ }
+    requires { ⌜ marksSize ≤ length (now marks) ⌝ }
+    ensures { λ r. ⌜ LowestUnmarked (now (marks .entry)) count r ⌝ }
+{
+    let mut i = 0;
+    while i < count {
+        if !rules::is_marked(marks, i) {
+            return i;
+        }
+        i += 1;
+    }
+    i
+}
+
+// The lowest node that is not reachable from the start, or the count where all are, with blank marks for the nodes.
+fn lowest_unused(book: &[u8], count: usize, marks: &mut [u64]) -> usize
+    requires { ⌜ GoodBook (now book) count ⌝ }
+    requires { ⌜ Blank marksSize (now marks) ⌝ }
+    ensures { λ r. ⌜ LowestUnused (bookOf (now (book .entry))) count r ⌝ }
+{
+    let start = u16_at(book, SETTINGS_AT + 2);
+    if rules::reach(book, NODES_AT, count, start, marks) {
+        return count;
+    }
+    lowest_unmarked(count, marks)
+}
+
+// Judges a book, for any bytes: the first of 1 to 4, 22, 5 and 6, or that it passes, with its facts in the table. Where
+// the form is good the table is blank and long enough.
 pub fn judge(book: &[u8], table: &mut [u64]) -> Verdict
     requires { ⌜ (formOf (now book) .number ≡ DONE → Blank (tableSize (countOf (length (now book)))) (now table)) ⌝ }
     ensures { λ r. ⌜ Leaves (now (book .entry)) r (now (table .exit)) ⌝ }
@@ -159,6 +171,11 @@ pub fn judge(book: &[u8], table: &mut [u64]) -> Verdict
         return verdict_of(form.number, form.place as usize, 0);
     }
     let count = book::count_of(book.len());
+    let mut marks = [0u64; rules::MARKS];
+    let unused = lowest_unused(book, count, &mut marks);
+    if unused < count {
+        return verdict_of(UNUSED, unused, 0);
+    }
     rules::least_facts(book, NODES_AT, count, table);
     judge_known(book, count, table)
 }

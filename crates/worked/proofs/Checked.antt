@@ -18,8 +18,8 @@ use Rattle.plan.specs.Form.{planCount, planKinds, planStart, cellAt, planFrom, 
 use Rattle.running.specs.Running.{moveOf, noted, visit, takeOff, walk, event, logged, onward, finish, reads, reading, rowFirst, expected}
 use Rattle.compiler.specs.declared.Compiled.{Compiled}
 use Rattle.compiler.specs.Compiles.{answer, Compiles}
-use Rattle.verdict.proofs.Some.{decide, decide-both, lowest, null?, first?, shared?, reported?, conflict?}
-use Rattle.verdict.proofs.Some.{judged-fruitful, judged-start, judged-form, judges-some}
+use Rattle.verdict.proofs.Some.{decide, decide-both, either-way, other-way, search, null?, first?, shared?, reported?, unreached?}
+use Rattle.verdict.proofs.Some.{judged-fruitful, judged-start, judged-good, judged-form, judges-some}
 use Rattle.compiler.proofs.Some.{marks, by-verdict, compiles-some}
 use Rattle.reader.specs.Numbers.{answered}
 use Rattle.reader.specs.Reads.{Outcome, outcome, acceptedOf, outcomeOf, runOf, readOf}
@@ -60,7 +60,8 @@ unfolding table book wordBytes flatMap computed said by-verdict compiles-some
     u16At bookOf nodeAt nodes nodeGood firstBad formOf ℕ-discrete decLt
     filled kept-or differ turned settled settle decided ruled given facts-decided fact-decided productive-decided nullable-decided
     first-decided snf-decided child? any reached? reach-decided
-    decide decide-both lowest null? first? shared? reported? conflict? judged-fruitful judged-start judged-form judges-some marks
+    decide decide-both either-way other-way search null? first? shared? reported? unreached?
+    judged-fruitful judged-start judged-good judged-form judges-some marks
     planBytes planContents bookBody valuesFrom listsFrom Bytes.rowOf Bytes.rowsOf cellOf
     planCount planKinds planStart cellAt planFrom planGood cellGood cellsJudged planJudged
     moveOf noted visit takeOff walk event logged onward finish reads reading rowFirst expected acceptedOf outcomeOf runOf readOf

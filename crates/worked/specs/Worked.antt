@@ -72,10 +72,13 @@ table =
     ∷ compiled (book 2 4 (Ref 4 ∷ Token 0 ∷ Then 0 1 ∷ Token 1 ∷ Either 2 3 ∷ [])) 2 (answer 6 4 1 0) (0 ∷ 0 ∷ [])
     ∷ compiled (book 1 4 (Ref 4 ∷ Fail ∷ Then 0 1 ∷ Token 0 ∷ Either 2 3 ∷ [])) 64 (answer 0 0 0 64) loop
     ∷ read loop (0 ∷ []) 1 2 (answered 0 1 2 0) (4 ∷ 3 ∷ []) ∷ compiled (book 1 0 (Fail ∷ [])) 0 (answer 5 0 0 0) []
-    ∷ compiled (book 1 1 (Fail ∷ Fail ∷ Token 0 ∷ [])) 2 (answer 5 1 0 0) (0 ∷ 0 ∷ [])
+    ∷ compiled (book 1 1 (Fail ∷ Then 0 0 ∷ [])) 2 (answer 5 1 0 0) (0 ∷ 0 ∷ [])
+    ∷ compiled (book 1 1 (Fail ∷ Fail ∷ Token 0 ∷ [])) 2 (answer 22 0 0 0) (0 ∷ 0 ∷ [])
+    ∷ compiled (book 1 2 (Token 0 ∷ Token 0 ∷ Either 0 1 ∷ Fail ∷ [])) 0 (answer 22 3 0 0) []
+    ∷ compiled (book 1 0 (Ref 2 ∷ Token 0 ∷ Tagged 1 9 ∷ [])) 0 (answer 7 0 0 48) []
     ∷ compiled (book 1 0 (Empty ∷ [])) 33 (answer 0 0 0 32) (lone ++ (0 ∷ []))
     ∷ read lone [] 1 1 (answered 0 0 1 0) (32768 ∷ []) ∷ read lone (0 ∷ []) 1 1 (answered 13 0 0 0) (0 ∷ [])
-    ∷ compiled (book 1 0 (Token 0 ∷ Token 0 ∷ Either 0 1 ∷ [])) 0 (answer 7 0 0 48) []
+    ∷ compiled (book 1 0 (Token 0 ∷ Token 0 ∷ Either 0 1 ∷ [])) 2 (answer 22 1 0 0) (0 ∷ 0 ∷ [])
     ∷ compiled (book 2 5 (Token 0 ∷ Empty ∷ Either 0 1 ∷ Token 1 ∷ Then 2 3 ∷ Then 4 0 ∷ [])) 0 (answer 7 0 0 78) []
     ∷ compiled (book 64 1 (Token 63 ∷ Tagged 0 65535 ∷ [])) 166 (answer 0 0 0 166) wide
     ∷ read wide (63 ∷ []) 1 2 (answered 0 1 2 0) (1 ∷ 0 ∷ [])

@@ -54,6 +54,29 @@ pub fn shared_kind_aside() -> Book {
     }
 }
 
+/// A start that derives nothing, between a fail and a token that it does not reach.
+pub fn unused_and_barren() -> Book {
+    Book {
+        start: 1,
+        ..Book::ending(1, &[(FAIL, 0, 0), (FAIL, 0, 0), (TOKEN, 0, 0)])
+    }
+}
+
+/// The first conflict book with a fail behind its start.
+pub fn unused_beside_conflict() -> Book {
+    let mut book = shared_kind();
+    book.nodes.push(node(FAIL, 0, 0));
+    book
+}
+
+/// A start that reaches the other nodes by a ref upward.
+pub fn reached_upward() -> Book {
+    Book {
+        start: 0,
+        ..Book::ending(1, &[(REF, 2, 0), (TOKEN, 0, 0), (TAGGED, 1, 9)])
+    }
+}
+
 /// A single node.
 pub fn lone(form: u16) -> Book {
     Book::ending(1, &[(form, 0, 0)])

@@ -56,6 +56,46 @@ pub fn large_book(random: &mut Random) -> Book {
     }
 }
 
+/// A book without the nodes that its start does not reach; those that stay keep their order.
+pub fn without_unused(book: &Book) -> Book {
+    let mut used = vec![false; book.nodes.len()];
+    used[usize::from(book.start)] = true;
+    while spread(book, &mut used) {}
+    let before = |number: u16| used[..usize::from(number)].iter().filter(|&&is| is).count() as u16;
+    let kept = book.nodes.iter().zip(&used).filter(|&(_, &is)| is);
+    let renumbered = kept.map(|(&Node { form, left, right }, _)| match form {
+        EITHER | THEN => node(form, before(left), before(right)),
+        TAGGED | REF => node(form, before(left), right),
+        _ => node(form, left, right),
+    });
+    Book {
+        kinds: book.kinds,
+        start: before(book.start),
+        nodes: renumbered.collect(),
+    }
+}
+
+/// Notes the sides of the nodes that are used as used too. Whether any was not yet.
+fn spread(book: &Book, used: &mut [bool]) -> bool {
+    let mut more = false;
+    for own in (0..book.nodes.len())
+        .rev()
+        .filter(|&own| used[own])
+        .collect::<Vec<_>>()
+    {
+        let Node { form, left, right } = book.nodes[own];
+        let sides = match form {
+            EITHER | THEN => vec![left, right],
+            TAGGED | REF => vec![left],
+            _ => Vec::new(),
+        };
+        for side in sides {
+            more |= !std::mem::replace(&mut used[usize::from(side)], true);
+        }
+    }
+    more
+}
+
 /// A book whose nodes are all chosen freely.
 fn soup(random: &mut Random, kinds: u16) -> Book {
     let count = random.within(1, 12);
@@ -68,7 +108,7 @@ fn soup(random: &mut Random, kinds: u16) -> Book {
 /// A book like a regular expression, whose alternatives mostly begin with different kinds.
 fn regular(random: &mut Random, kinds: u16, depth: usize) -> Book {
     let mut maker = maker(random, kinds);
-    maker.unreachable();
+    maker.unused();
     let all: Vec<u16> = (0..kinds).collect();
     let start = maker.part(&all, depth);
     maker.finish(usize::from(start))
@@ -77,7 +117,7 @@ fn regular(random: &mut Random, kinds: u16, depth: usize) -> Book {
 /// A book of rules that refer to each other, each alternative beginning with its own kind.
 fn rules(random: &mut Random, kinds: u16, most: usize) -> Book {
     let mut maker = maker(random, kinds);
-    maker.unreachable();
+    maker.unused();
     let count = maker.random.within(1, most);
     let heads: Vec<u16> = (0..count).map(|_| maker.add(REF, 0, 0)).collect();
     for &head in &heads {
@@ -160,28 +200,42 @@ impl Maker<'_> {
     }
 
     /// Adds now and then some nodes that the shape does not use.
-    fn unreachable(&mut self) {
+    fn unused(&mut self) {
         if self.nodes.len() < ENOUGH && self.random.once_in(4) {
             let count = self.random.within(1, 4);
             self.loose(count);
         }
     }
 
-    /// The finished book with this start; free refs now get their nodes.
+    /// The finished book with this start; free refs now get their nodes. Mostly the nodes that the start does not reach
+    /// are taken out again. A large book is filled up to all nodes that a book can have: with nodes that are not used,
+    /// or with tagged nodes above the start.
     fn finish(mut self, start: usize) -> Book {
-        self.unreachable();
-        if self.nodes.len() > ENOUGH / 2 {
+        self.unused();
+        let large = self.nodes.len() > ENOUGH / 2;
+        let keeps = self.random.once_in(6);
+        if large && keeps {
             self.loose(MOST_NODES - self.nodes.len());
         }
         let count = self.nodes.len();
         for at in std::mem::take(&mut self.free_refs) {
             self.nodes[at].left = self.random.below(count) as u16;
         }
-        Book {
+        let mut book = Book {
             kinds: self.kinds,
             start: start as u16,
-            nodes: self.nodes,
+            nodes: std::mem::take(&mut self.nodes),
+        };
+        if keeps {
+            return book;
         }
+        book = without_unused(&book);
+        while large && book.nodes.len() < MOST_NODES {
+            let label = self.label();
+            book.nodes.push(node(TAGGED, book.start, label));
+            book.start = book.nodes.len() as u16 - 1;
+        }
+        book
     }
 
     /// Adds a part that begins with these kinds only.

@@ -25,6 +25,7 @@ pub static COMPILE: Call = Call {
         (BARREN, 2_500),
         (CONFLICT, 6_000),
         (PLAN_ROOM, 5_000),
+        (UNUSED, 5_000),
     ],
     share: 140,
     wanted,

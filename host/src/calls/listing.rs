@@ -26,6 +26,7 @@ pub static LISTING: Call = Call {
         (UNEXPECTED, 7_000),
         (END, 1_000),
         (NO_ROOM, 100),
+        (UNUSED, 3_000),
         (INPUT_TOO_LONG, 3_000),
         (INPUT_TOO_SHORT, 4_000),
     ],

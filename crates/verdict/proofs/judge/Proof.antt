@@ -1,13 +1,14 @@
--- `verdict::judge` meets its contract: a book of good form gets its facts, and with them its verdict.
+-- `verdict::judge` meets its contract: a book of good form whose nodes are all reachable gets its facts, and with them its verdict.
 use native.Mathlib.Omega.{arith}
 use borrow.Author.Needs.{needs}
 use denote.Ref.{now}
 use mathlib.Core.Path.{_≡_, sym, ap, _∙_}
 use Rattle.book.specs.declared.Judged.{Judged}
 use Rattle.book.specs.Form.{DONE, formOf}
+use Rattle.rules.proofs.Growing.{blank-zeros}
 use Rattle.verdict.specs.Conflicts.{GoodBook}
-use Rattle.verdict.proofs.Books.{book-count, book-long, nodes-good, facts-known, known-own}
-use Rattle.verdict.proofs.Answers.{answered-malformed}
+use Rattle.verdict.proofs.Books.{book-count, book-long, count-small, nodes-good, facts-known, known-own}
+use Rattle.verdict.proofs.Answers.{answered-malformed, answered-unused, reached-all}
 use Rattle.verdict.proofs.judge.Statement.{statement}
 use Rattle.verdict.proofs.judge.Tie as tie
 
@@ -35,28 +36,49 @@ returns c =
 count-of-requires : tie.Need-count-of-requires
 count-of-requires c κs = omega (arith, book-long (record { form = form-is c; count-is = book-count _ }))
 
+slice-aggregate-lowest-unused : tie.Need-slice-aggregate-lowest-unused
+slice-aggregate-lowest-unused c = search needs
+
+lowest-unused-requires : tie.Need-lowest-unused-requires
+lowest-unused-requires c κs = (good (c .before), blank-zeros 8)
+
+verdict-of-requires-2 : tie.Need-verdict-of-requires-2
+verdict-of-requires-2 c κs =
+    let counted = c .before .before .before .before in
+    omega (arith, c .if2 .taken, count-small (good counted))
+
+returns-2 : tie.Need-returns-2
+returns-2 c =
+    let tested = c .before in
+    let searched = tested .before .before in
+    rw (c .verdict-of2 .ensures) (answered-unused (good (searched .before .before)) (searched .lowest-unused .ensures) (tested .if2 .taken))
+
 least-facts-requires : tie.Need-least-facts-requires
 least-facts-requires c κs =
-    let counted = c .before in
+    let counted = c .before .before .before .before .before in
     let entry = counted .before .before .before .before .before .before in
     (nodes-good (good counted), rw (counted .count-of .ensures) (entry .pre (form-is (counted .before))))
 
 judge-known-requires : tie.Need-judge-known-requires
 judge-known-requires c κs =
     let filled = c .before .before .before in
-    let counted = filled .before .before in
+    let tested = filled .before .before in
+    let searched = tested .before .before in
+    let counted = searched .before .before in
     let entry = counted .before .before .before .before .before .before in
-    let blank = rw (← counted .count-of .ensures) at (entry .pre (form-is (counted .before))) in
-    facts-known (good counted) (omega (arith, blank .long, filled .least-facts .kept)) (filled .least-facts .ensures)
+    let blank = rw (← counted .count-of .ensures) at (entry .pre (form-is (counted .before))) in (
+      facts-known (good counted) (omega (arith, blank .long, filled .least-facts .kept)) (filled .least-facts .ensures),
+      reached-all (good counted) (searched .lowest-unused .ensures) (tested .if2 .left),
+    )
 
 same-length : tie.Need-same-length
 same-length c = search needs
 
-returns-2 : tie.Need-returns-2
-returns-2 c =
+returns-3 : tie.Need-returns-3
+returns-3 c =
     record {
       judges = c .judge-known .ensures;
-      known = λ done. known-own (judge-known-requires (c .before) (c .judge-known .lifetimes));
+      known = λ done. known-own (judge-known-requires (c .before) (c .judge-known .lifetimes) .0);
     }
 
 pub judge-spec : {M : Type 1} → statement M
@@ -68,7 +90,11 @@ judge-spec =
     verdict-of-requires
     returns
     count-of-requires
+    slice-aggregate-lowest-unused
+    lowest-unused-requires
+    verdict-of-requires-2
+    returns-2
     least-facts-requires
     judge-known-requires
     same-length
-    returns-2)
+    returns-3)

@@ -8,10 +8,9 @@ use mathlib.Core.Path.{_≡_, sym, ap, _∙_}
 use Rattle.kinds.specs.Kinds.{has?}
 use Rattle.rules.specs.declared.NodeFacts.{NodeFacts}
 use Rattle.rules.specs.Facts.{factsAt}
-use Rattle.rules.proofs.Growing.{blank-zeros}
 use Rattle.book.specs.Form.{bookOf}
-use Rattle.verdict.proofs.Books.{book-start, book-long, count-small}
-use Rattle.verdict.proofs.Answers.{start-below, answered-barren, kind-small, answered-conflict, answered-passes}
+use Rattle.verdict.proofs.Books.{book-start, book-long, count-small, start-below}
+use Rattle.verdict.proofs.Answers.{answered-barren, kind-small, answered-conflict, answered-passes}
 use Rattle.verdict.proofs.judge_known.Statement.{statement}
 use Rattle.verdict.proofs.judge_known.Tie as tie
 
@@ -29,12 +28,12 @@ add-u16-at : tie.Need-add-u16-at
 add-u16-at c = search needs
 
 u16-at-requires : tie.Need-u16-at-requires
-u16-at-requires c κs = omega (arith, book-long (c .before .before .pre .good))
+u16-at-requires c κs = omega (arith, book-long (c .before .before .pre .0 .good))
 
 facts-at-requires : tie.Need-facts-at-requires
 facts-at-requires c κs =
-    let known = c .before .before .before .pre in
-    omega (arith, start-below known (start-is c), known .long)
+    let known = c .before .before .before .pre .0 in
+    omega (arith, start-below (known .good) (start-is c), known .long)
 
 has-requires : tie.Need-has-requires
 has-requires c κs = search needs
@@ -46,37 +45,34 @@ returns : tie.Need-returns
 returns c =
     let tested = c .before in
     let read = tested .before .before .before in
-    let known = read .before .before .before .pre in
-    rw (c .verdict-of .ensures) (answered-barren known (start-is read) (test-is (tested .before) ∙ not-true _ (tested .if1 .taken)))
-
-slice-aggregate-lowest-conflict : tie.Need-slice-aggregate-lowest-conflict
-slice-aggregate-lowest-conflict c = search needs
+    let entry = read .before .before .before in
+    rw (c .verdict-of .ensures) (answered-barren (entry .pre .0) (start-is read) (entry .pre .1) (test-is (tested .before) ∙ not-true _ (tested .if1 .taken)))
 
 lowest-conflict-requires : tie.Need-lowest-conflict-requires
-lowest-conflict-requires c κs =
-    let read = c .before .before .before .before in
-    (read .before .before .before .pre, (start-is read, blank-zeros 8))
+lowest-conflict-requires c κs = search needs
 
 conflict-at-requires : tie.Need-conflict-at-requires
 conflict-at-requires c κs = search needs
 
 verdict-of-requires-2 : tie.Need-verdict-of-requires-2
 verdict-of-requires-2 c κs =
-    let found = c .before .before .before in
-    let read = found .before .before .before .before .before in
-    let known = read .before .before .before .pre in
+    let found = c .before .before in
+    let read = found .before .before .before .before in
+    let known = read .before .before .before .pre .0 in
     let kind = kind-small known (start-is read) (found .lowest-conflict .ensures) (c .before .if2 .taken) (c .conflict-at .ensures) in
     omega (arith, c .before .if2 .taken, count-small (known .good), kind)
 
 returns-2 : tie.Need-returns-2
 returns-2 c =
     let told = c .before in
-    let found = told .before .before .before in
-    let tested = found .before .before in
+    let found = told .before .before in
+    let tested = found .before in
     let read = tested .before .before .before in
-    let known = read .before .before .before .pre in
+    let entry = read .before .before .before in
     rw (c .verdict-of2 .ensures)
-    (answered-conflict known (start-is read) (found .lowest-conflict .ensures) (told .before .if2 .taken) (told .conflict-at .ensures)
+    (answered-conflict (entry .pre .0) (start-is read) (found .lowest-conflict .ensures) (told .before .if2 .taken)
+    (told .conflict-at .ensures)
+    (entry .pre .1)
     (test-is (tested .before) ∙ not-false _ (tested .if1 .left)))
 
 verdict-of-requires-3 : tie.Need-verdict-of-requires-3
@@ -84,12 +80,13 @@ verdict-of-requires-3 c κs = search needs
 
 returns-3 : tie.Need-returns-3
 returns-3 c =
-    let found = c .before .before .before in
-    let tested = found .before .before in
+    let found = c .before .before in
+    let tested = found .before in
     let read = tested .before .before .before in
-    let known = read .before .before .before .pre in
+    let entry = read .before .before .before in
     rw (c .verdict-of3 .ensures)
-    (answered-passes known (start-is read) (found .lowest-conflict .ensures) (test-is (tested .before) ∙ not-false _ (tested .if1 .left))
+    (answered-passes (entry .pre .0) (start-is read) (found .lowest-conflict .ensures) (entry .pre .1)
+    (test-is (tested .before) ∙ not-false _ (tested .if1 .left))
     (c .before .if2 .left))
 
 pub judge-known-spec : {M : Type 1} → statement M
@@ -102,7 +99,6 @@ judge-known-spec =
     has-requires
     verdict-of-requires
     returns
-    slice-aggregate-lowest-conflict
     lowest-conflict-requires
     conflict-at-requires
     verdict-of-requires-2

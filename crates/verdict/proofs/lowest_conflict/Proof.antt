@@ -1,33 +1,53 @@
--- `verdict::lowest_conflict` meets its contract: the marked nodes are the reachable ones.
-use native.Mathlib.Omega.{arith}
+-- `verdict::lowest_conflict` meets its contract. The loop's invariant: no node passed has a conflict. The measure is what is left of the
+-- count.
+use Prim.Native.Nat.{_-_}
 use borrow.Author.Needs.{needs}
-use Rattle.verdict.proofs.Books.{nodes-good}
-use Rattle.verdict.proofs.Lowest.{lowest-reached}
-use Rattle.verdict.proofs.Answers.{start-below}
+use Rattle.book.specs.Form.{bookOf}
+use Rattle.verdict.specs.Conflicts.{Clear}
+use Rattle.verdict.proofs.Lowest.{Passed, passed-none, passed-more, passed-found, passed-all}
 use Rattle.verdict.proofs.lowest_conflict.Statement.{statement}
 use Rattle.verdict.proofs.lowest_conflict.Tie as tie
 
-reach-requires : tie.Need-reach-requires
-reach-requires c κs =
-    let entry = c .before .before .before .before in
-    let known = entry .pre .0 in
-    (nodes-good (known .good), (start-below known (entry .pre .1 .0), entry .pre .1 .1))
+abbrev Inv-loop : tie.InvT-loop
+Inv-loop book count table n₀ n = Passed (Clear (bookOf book .node)) count n
 
-lowest-marked-requires : tie.Need-lowest-marked-requires
-lowest-marked-requires c κs =
-    let marked = c .before .before .before in
-    let entry = marked .before .before .before .before .before in
-    (entry .pre .0, omega (arith, entry .pre .1 .1 .long, marked .reach .kept))
+abbrev μ-loop : tie.MeasureT-loop
+μ-loop book count table n₀ n = count - n
 
-same-length : tie.Need-same-length
-same-length c = search needs
+loop-holds : tie.Need-loop-holds Inv-loop μ-loop
+loop-holds c = passed-none
 
-returns : tie.Need-returns
-returns c =
-    let marked = c .before .before .before .before in
-    let entry = marked .before .before .before .before .before in
-    lowest-reached (entry .pre .0 .good) (marked .reach .ensures) (c .lowest-marked .ensures)
+conflicting-requires : tie.Need-conflicting-requires Inv-loop μ-loop
+conflicting-requires c κs = search needs
+
+returns : tie.Need-returns Inv-loop μ-loop
+returns c = passed-found (c .before .before .before .loop .inv) (c .before .conflicting .ensures) (c .if1 .taken)
+
+add-n : tie.Need-add-n Inv-loop μ-loop
+add-n c = search needs
+
+loop-less : tie.Need-loop-less Inv-loop μ-loop
+loop-less c = search needs
+
+loop-again : tie.Need-loop-again Inv-loop μ-loop
+loop-again c =
+    let told = c .before in
+    let tested = told .before in
+    passed-more (tested .before .loop .inv) (tested .loop-test .taken) (told .conflicting .ensures) (c .if1 .left)
+
+returns-2 : tie.Need-returns-2 Inv-loop μ-loop
+returns-2 c = passed-all (c .before .loop .inv) (c .loop-test .left)
 
 pub lowest-conflict-spec : {M : Type 1} → statement M
 lowest-conflict-spec =
-    tie.close (tie.spec reach-requires lowest-marked-requires same-length returns)
+    tie.close
+    (tie.spec
+    Inv-loop
+    μ-loop
+    loop-holds
+    conflicting-requires
+    returns
+    add-n
+    loop-less
+    loop-again
+    returns-2)
