@@ -22,7 +22,6 @@ enum {
     BOOK_NODES = 18,
     PLAN_SETTINGS = 20,
     PLAN_NODES = 24,
-    BOTH_NULLABLE = 255,
     EMPTY_RECORD = 32768
 };
 
@@ -212,30 +211,15 @@ static void find_reachable(const book *b, bool *reachable)
     }
 }
 
-/* The lowest kind of a set that is not empty. */
-static uint32_t lowest(uint64_t set)
-{
-    uint32_t kind = 0;
-    while ((set >> kind & 1) == 0)
-        kind++;
-    return kind;
-}
-
-/* Whether a node has a conflict, and its kind. */
-static bool conflict(node x, const facts *known, uint32_t *kind)
+/* Whether a node has a conflict; what clashes there. */
+static bool conflict(node x, const facts *known, bool *both, uint64_t *clash)
 {
     if (x.form != EITHER && x.form != THEN)
         return false;
     facts l = known[x.left], r = known[x.right];
-    if (x.form == EITHER && l.nullable && r.nullable) {
-        *kind = BOTH_NULLABLE;
-        return true;
-    }
-    uint64_t shared = (x.form == EITHER ? l.first : l.snf) & r.first;
-    if (shared == 0)
-        return false;
-    *kind = lowest(shared);
-    return true;
+    *both = x.form == EITHER && l.nullable && r.nullable;
+    *clash = (x.form == EITHER ? l.first : l.snf) & r.first;
+    return *both || *clash != 0;
 }
 
 /* The cell of a node for a kind in its FIRST set. */
@@ -300,25 +284,26 @@ reference_compiled reference_compile(const uint8_t *bytes, size_t len, uint8_t *
     memset(plan, 0, plan_len);
     reference_formed formed = reference_form(bytes, len);
     if (formed.number != DONE)
-        return (reference_compiled){formed.number, formed.place, 0, 0};
+        return (reference_compiled){formed.number, formed.place, 0, 0, 0};
     book b = book_at(bytes + BOOK_SETTINGS, (len - BOOK_NODES) / NODE_BYTES);
     find_reachable(&b, reachable);
     for (size_t n = 0; n < b.count; n++)
         if (!reachable[n])
-            return (reference_compiled){UNUSED, (uint32_t)n, 0, 0};
+            return (reference_compiled){UNUSED, (uint32_t)n, 0, 0, 0};
     find_facts(&b, known);
     if (!known[b.start].productive)
-        return (reference_compiled){BARREN, (uint32_t)b.start, 0, 0};
+        return (reference_compiled){BARREN, (uint32_t)b.start, 0, 0, 0};
     for (size_t n = 0; n < b.count; n++) {
-        uint32_t kind;
-        if (conflict(node_at(&b, n), known, &kind))
-            return (reference_compiled){CONFLICT, (uint32_t)n, kind, 0};
+        bool both;
+        uint64_t clash;
+        if (conflict(node_at(&b, n), known, &both, &clash))
+            return (reference_compiled){CONFLICT, (uint32_t)n, 0, both, clash};
     }
     size_t size = plan_size(&b);
     if (plan_len < size)
-        return (reference_compiled){PLAN_ROOM, 0, 0, (uint32_t)size};
+        return (reference_compiled){PLAN_ROOM, 0, (uint32_t)size, 0, 0};
     write_plan(&b, known, plan);
-    return (reference_compiled){DONE, 0, 0, (uint32_t)size};
+    return (reference_compiled){DONE, 0, (uint32_t)size, 0, 0};
 }
 
 /* Whether a plan's length, contents, settings and nodes are right; fills in its book. */

@@ -56,7 +56,7 @@ drumbook_formed drumbook_form(const uint8_t *book, size_t book_len)
 drumbook_compiled drumbook_compile(const uint8_t *book, size_t book_len, uint8_t *plan, size_t plan_len)
 {
     if (has("null") && (book == NULL || plan == NULL))
-        return (drumbook_compiled){BROKEN, 0, 0, 0};
+        return (drumbook_compiled){BROKEN, 0, 0, 0, 0};
     drumbook_compiled answer = true_compile(book, cut("compile-book", book_len), plan, cut("plan-buffer", plan_len));
     if (answer.size != 0) {
         answer.size += has("size-511-63") && sized(book, book_len, 511, 63);

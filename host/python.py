@@ -11,7 +11,7 @@ DONE, PLAN_ROOM, NO_ROOM, EMPTY_RECORD = 0, 7, 16, 32768
 
 class Compiled(ctypes.Structure):
     """What compiling answers."""
-    _fields_ = [(name, ctypes.c_uint32) for name in ("number", "place", "kind", "size")]
+    _fields_ = [(name, ctypes.c_uint32) for name in ("number", "place", "size", "both")] + [("clash", ctypes.c_uint64)]
 
 
 class Reading(ctypes.Structure):
@@ -34,7 +34,7 @@ def compiled(library, book):
     """The plan of a book: its size is asked first, with no buffer."""
     asked = library.drumbook_compile(book, len(book), None, 0)
     if asked.number != PLAN_ROOM:
-        raise ValueError(f"refused with {asked.number}, at {asked.place}, kind {asked.kind}")
+        raise ValueError(f"refused with {asked.number}, at {asked.place}, clash {asked.clash:#x}, both {asked.both}")
     plan = (ctypes.c_uint8 * asked.size)()
     library.drumbook_compile(book, len(book), plan, len(plan))
     return bytes(plan)

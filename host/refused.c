@@ -24,6 +24,18 @@ static const uint8_t both_empty[] = {
     3, 0, 0, 0, 1, 0,
 };
 
+/* Rinse, tip or nothing, on both sides. */
+static const uint8_t both_ways[] = {
+    2, 0,  1, 0, 14, 0, 4, 0,  2, 0, 18, 0, 36, 0, /* contents */
+    3, 0, 5, 0,                                    /* 3 kinds, start 5 */
+    2, 0, 1, 0, 0, 0,                              /* 0 token 1, rinse */
+    2, 0, 2, 0, 0, 0,                              /* 1 token 2, tip */
+    3, 0, 0, 0, 1, 0,                              /* 2 either 0 1 */
+    1, 0, 0, 0, 0, 0,                              /* 3 empty */
+    3, 0, 2, 0, 3, 0,                              /* 4 either 2 3: rinse, tip or nothing */
+    3, 0, 4, 0, 4, 0,                              /* 5 either 4 4 */
+};
+
 /* Fill, any number of rinses, then a rinse and tip: at a rinse, is it one of the many or the last one? */
 static const uint8_t last_rinse[] = {
     2, 0,  1, 0, 14, 0, 4, 0,  2, 0, 18, 0, 60, 0, /* contents */
@@ -56,6 +68,16 @@ static const uint8_t first_rinse[] = {
     4, 0, 0, 0, 8, 0,                              /* 9 then 0 8 */
 };
 
+/* Fill, then tip; a rinse that the start does not reach. */
+static const uint8_t unused_rinse[] = {
+    2, 0,  1, 0, 14, 0, 4, 0,  2, 0, 18, 0, 24, 0, /* contents */
+    3, 0, 3, 0,                                    /* 3 kinds, start 3 */
+    2, 0, 0, 0, 0, 0,                              /* 0 token 0, fill */
+    2, 0, 1, 0, 0, 0,                              /* 1 token 1, rinse */
+    2, 0, 2, 0, 0, 0,                              /* 2 token 2, tip */
+    4, 0, 0, 0, 2, 0,                              /* 3 then 0 2 */
+};
+
 /* A lone fail. */
 static const uint8_t lone_fail[] = {
     2, 0,  1, 0, 14, 0, 4, 0,  2, 0, 18, 0, 6, 0,
@@ -63,16 +85,26 @@ static const uint8_t lone_fail[] = {
     0, 0, 0, 0, 0, 0,
 };
 
-/* Prints which two ways a conflict leaves open. */
+/* Prints the kinds of a set. */
+static void print_kinds(uint64_t set)
+{
+    for (unsigned kind = 0; kind < 64; kind++)
+        if (set >> kind & 1)
+            printf(" %u", kind);
+}
+
+/* Prints which ways a conflict leaves open, with every kind that clashes. */
 static void print_ways(const uint8_t *book, const drumbook_compiled *compiled)
 {
-    unsigned kind = (unsigned)compiled->kind;
-    if (kind == DRUMBOOK_BOTH_NULLABLE)
+    if (compiled->both)
         printf(": two ways to take nothing");
-    else if (book[NODES_AT + NODE_BYTES * compiled->place] == EITHER)
-        printf(": both sides can begin with kind %u", kind);
+    if (compiled->clash == 0)
+        return;
+    if (book[NODES_AT + NODE_BYTES * compiled->place] == EITHER)
+        printf(": both sides can begin with kind");
     else
-        printf(": at kind %u the left can go on and the right can begin", kind);
+        printf(": the left can go on and the right can begin with kind");
+    print_kinds(compiled->clash);
 }
 
 /* Compiles a book and prints the answer. */
@@ -93,8 +125,10 @@ int main(void)
 {
     int as_due = show("one kind on both sides", shared_kind, sizeof shared_kind) == DRUMBOOK_CONFLICT
         && show("nothing on both sides", both_empty, sizeof both_empty) == DRUMBOOK_CONFLICT
+        && show("rinse, tip or nothing on both sides", both_ways, sizeof both_ways) == DRUMBOOK_CONFLICT
         && show("rinses before a last rinse", last_rinse, sizeof last_rinse) == DRUMBOOK_CONFLICT
         && show("the same, the one rinse first", first_rinse, sizeof first_rinse) == DRUMBOOK_DONE
+        && show("fill and tip, a rinse left over", unused_rinse, sizeof unused_rinse) == DRUMBOOK_UNUSED
         && show("a lone fail", lone_fail, sizeof lone_fail) == DRUMBOOK_BARREN;
     return as_due ? 0 : 1;
 }

@@ -57,7 +57,7 @@ static drumbook_formed no_form(const uint8_t *book, size_t book_len)
 static drumbook_compiled no_compile(const uint8_t *book, size_t book_len, uint8_t *to, size_t to_len)
 {
     (void)book, (void)book_len, (void)to, (void)to_len;
-    return (drumbook_compiled){0, 0, 0, 0};
+    return (drumbook_compiled){0, 0, 0, 0, 0};
 }
 
 /* Reads nothing. */

@@ -27,10 +27,10 @@ extern "C" {
  * calls and structs, and the shared library's name has both; a new patch number changes neither.
  */
 #define DRUMBOOK_VERSION_MAJOR 0
-#define DRUMBOOK_VERSION_MINOR 1
+#define DRUMBOOK_VERSION_MINOR 2
 #define DRUMBOOK_VERSION_PATCH 0
 
-/* The version as one number that grows, and as text, "0.1.0". */
+/* The version as one number that grows, and as text, "0.2.0". */
 #define DRUMBOOK_VERSION_NUMBER \
     (DRUMBOOK_VERSION_MAJOR * 1000000 + DRUMBOOK_VERSION_MINOR * 1000 + DRUMBOOK_VERSION_PATCH)
 #define DRUMBOOK_VERSION DRUMBOOK_TEXT_(DRUMBOOK_VERSION_MAJOR, DRUMBOOK_VERSION_MINOR, DRUMBOOK_VERSION_PATCH)
@@ -45,7 +45,7 @@ enum {
     DRUMBOOK_SETTINGS = 3,    /* the number of kinds is not 1 to 64, or the start is not below N */
     DRUMBOOK_NODE = 4,        /* a type or field against the type table; place: the first such node */
     DRUMBOOK_BARREN = 5,      /* the start can produce no run; place: the start */
-    DRUMBOOK_CONFLICT = 6,    /* a node has a conflict; place: the lowest such node; see kind */
+    DRUMBOOK_CONFLICT = 6,    /* a node has a conflict; place: the lowest such node; see clash and both */
     DRUMBOOK_PLAN_ROOM = 7,   /* the plan buffer is shorter than the plan; see size */
     DRUMBOOK_PLAN_FORM = 8,   /* the plan's length, contents, settings or nodes are wrong */
     DRUMBOOK_CELL = 9,        /* a cell that its node's type never has, or a last cell above 1; place: the first such
@@ -63,7 +63,6 @@ enum {
 enum {
     DRUMBOOK_LARGEST_BOOK = 3090,   /* bytes of the longest book */
     DRUMBOOK_LARGEST_PLAN = 36376,  /* bytes of the longest plan: a buffer that always suffices */
-    DRUMBOOK_BOTH_NULLABLE = 255,   /* the kind of a conflict where both sides of an either can take nothing */
     DRUMBOOK_EMPTY_RECORD = 32768   /* added to the node number in the record of a part that takes no event */
 };
 
@@ -80,8 +79,11 @@ drumbook_formed drumbook_form(const uint8_t *book, size_t book_len);
 typedef struct {
     uint32_t number; /* DRUMBOOK_DONE, or the first of 1 to 4, 22, 5, 6 and 7, in this order, that holds */
     uint32_t place;  /* the node that 4, 22, 5 and 6 name, otherwise 0 */
-    uint32_t kind;   /* with 6 the lowest kind shared, or DRUMBOOK_BOTH_NULLABLE, which goes first; otherwise 0 */
     uint32_t size;   /* with 0 and 7 the plan's size in bytes, otherwise 0 */
+    uint32_t both;   /* with 6 at an either: 1 if both sides can take nothing; otherwise 0 */
+    uint64_t clash;  /* with 6 all the kinds that clash at the node, bit k for kind k: at an either those that both
+                        sides can begin with, perhaps none where both is 1; at a then those with which the left can
+                        go on and the right can begin; otherwise 0 */
 } drumbook_compiled;
 
 /*

@@ -37,9 +37,6 @@ pub fn answer_name(number: u32) -> String {
     }
 }
 
-/// The kind given where both sides of an either are nullable.
-pub const BOTH_NULLABLE: u32 = 255;
-
 /// What an empty record has beside its node number.
 pub const EMPTY_RECORD: u16 = 32_768;
 
@@ -57,8 +54,9 @@ pub struct Formed {
 pub struct Compiled {
     pub number: u32,
     pub place: u32,
-    pub kind: u32,
     pub size: u32,
+    pub both: u32,
+    pub clash: u64,
 }
 
 /// The answer of reading.

@@ -23,25 +23,32 @@ pub fn compile(book: &[u8], plan: &mut [u8]) -> Compiled {
     plan.fill(0);
     let formed = form(book);
     if formed.number != DONE {
-        return compiled(formed.number, formed.place, 0, 0);
+        return compiled(formed.number, formed.place, 0);
     }
     let book = Book::of(&book[BOOK_SETTINGS..]);
     if let Some(place) = reachable(&book).iter().position(|&reached| !reached) {
-        return compiled(UNUSED, place as u32, 0, 0);
+        return compiled(UNUSED, place as u32, 0);
     }
     let facts = facts(&book);
     if !facts.productive[usize::from(book.start)] {
-        return compiled(BARREN, u32::from(book.start), 0, 0);
+        return compiled(BARREN, u32::from(book.start), 0);
     }
-    if let Some((place, kind)) = lowest_conflict(&book, &facts) {
-        return compiled(CONFLICT, place, kind, 0);
+    for (own, node) in book.nodes.iter().enumerate() {
+        let (both, clash) = clash(node, &facts);
+        if both || clash != 0 {
+            return Compiled {
+                both: both.into(),
+                clash,
+                ..compiled(CONFLICT, own as u32, 0)
+            };
+        }
     }
     let bytes = plan_by(&book, &facts);
     if plan.len() < bytes.len() {
-        return compiled(PLAN_ROOM, 0, 0, bytes.len() as u32);
+        return compiled(PLAN_ROOM, 0, bytes.len() as u32);
     }
     plan[..bytes.len()].copy_from_slice(&bytes);
-    compiled(DONE, 0, 0, bytes.len() as u32)
+    compiled(DONE, 0, bytes.len() as u32)
 }
 
 /// The plan of a well-formed book, whether it passes or not.
@@ -49,13 +56,14 @@ pub fn plan_of(book: &Book) -> Vec<u8> {
     plan_by(book, &facts(book))
 }
 
-/// An answer of the compiler.
-fn compiled(number: u32, place: u32, kind: u32, size: u32) -> Compiled {
+/// An answer of the compiler that tells of no conflict.
+fn compiled(number: u32, place: u32, size: u32) -> Compiled {
     Compiled {
         number,
         place,
-        kind,
         size,
+        both: 0,
+        clash: 0,
     }
 }
 
@@ -174,12 +182,6 @@ fn given(holds: bool, kinds: Kinds) -> Kinds {
     }
 }
 
-/// The lowest node with a conflict, and the conflict's kind.
-fn lowest_conflict(book: &Book, facts: &Facts) -> Option<(u32, u32)> {
-    let mut nodes = book.nodes.iter().enumerate();
-    nodes.find_map(|(own, node)| Some((own as u32, conflict(node, facts)?)))
-}
-
 /// Which nodes are reachable.
 fn reachable(book: &Book) -> Vec<bool> {
     let mut reached = vec![false; book.nodes.len()];
@@ -198,22 +200,23 @@ fn reachable(book: &Book) -> Vec<bool> {
     reached
 }
 
-/// The kind of a node's conflict, if it has one.
-fn conflict(node: &Node, facts: &Facts) -> Option<u32> {
+/// What clashes at a node: whether both sides are nullable, and the kinds shared.
+fn clash(node: &Node, facts: &Facts) -> (bool, u64) {
     let (left, right) = (node.left, node.right);
     match node.form {
-        EITHER if of(&facts.nullable, left) && of(&facts.nullable, right) => Some(BOTH_NULLABLE),
-        EITHER => lowest_shared(of(&facts.first, left), of(&facts.first, right)),
-        THEN => lowest_shared(of(&facts.snf, left), of(&facts.first, right)),
-        _ => None,
+        EITHER => (
+            of(&facts.nullable, left) && of(&facts.nullable, right),
+            shared(of(&facts.first, left), of(&facts.first, right)),
+        ),
+        THEN => (false, shared(of(&facts.snf, left), of(&facts.first, right))),
+        _ => (false, 0),
     }
 }
 
-/// The lowest kind in both sets.
-fn lowest_shared(one: Kinds, other: Kinds) -> Option<u32> {
-    (0..MOST_KINDS)
-        .find(|&kind| one[kind] && other[kind])
-        .map(|kind| kind as u32)
+/// The kinds in both sets, as a sum of 2 to the power of each.
+fn shared(one: Kinds, other: Kinds) -> u64 {
+    let both = (0..MOST_KINDS).filter(|&kind| one[kind] && other[kind]);
+    both.map(|kind| 1 << kind).sum()
 }
 
 /// The plan's bytes, with the rows by these facts.

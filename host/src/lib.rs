@@ -46,7 +46,6 @@ mod tests {
             assert_eq!(named(name), number as u32, "{name}");
         }
         assert_eq!(named("UNUSED"), UNUSED);
-        assert_eq!(named("BOTH_NULLABLE"), BOTH_NULLABLE);
         assert_eq!(named("EMPTY_RECORD"), u32::from(EMPTY_RECORD));
         assert_eq!(named("LARGEST_BOOK"), book::LONGEST_BOOK as u32);
         assert_eq!(named("LARGEST_PLAN"), book::LONGEST_PLAN as u32);

@@ -1,6 +1,6 @@
 //! What the listing program must print.
 
-use crate::answers::{DONE, EMPTY_RECORD, NO_ROOM};
+use crate::answers::{Compiled, CONFLICT, DONE, EMPTY_RECORD, NO_ROOM};
 use crate::book::{LONGEST_BOOK, LONGEST_PLAN};
 use crate::compile::compile;
 use crate::read::read;
@@ -53,8 +53,18 @@ pub fn taken_apart(input: &[u8]) -> Result<(&[u8], &[u8]), &'static str> {
 fn judged(book: &[u8], run: &[u8]) -> String {
     let mut plan = vec![0; LONGEST_PLAN];
     let compiled = compile(book, &mut plan);
-    if compiled.number != DONE {
-        return refused(compiled.number, compiled.place, compiled.kind);
+    let Compiled {
+        number,
+        place,
+        both,
+        clash,
+        ..
+    } = compiled;
+    if number == CONFLICT {
+        return refused(number, place, format!("{clash} {both}"));
+    }
+    if number != DONE {
+        return refused(number, place, 0);
     }
     let mut tree = vec![0; ROOM];
     let plan = &plan[..compiled.size as usize];

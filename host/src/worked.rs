@@ -25,23 +25,26 @@ const RINSE_ROWS: [[u8; 4]; 9] = [
     [3, 0, 0, 0],
 ];
 
-/// Each worked book with the compiler's answer in ample room: number, place, kind, size.
-fn compile_cases() -> Vec<(Book, [u32; 4])> {
+/// Each worked book with the compiler's answer in ample room: number, place, size, flag and set of a conflict.
+fn compile_cases() -> Vec<(Book, [u32; 5])> {
     vec![
-        (rinse(), [DONE, 0, 0, 114]),
-        (shared_kind(), [CONFLICT, 2, 0, 0]),
-        (both_nullable(), [CONFLICT, 2, BOTH_NULLABLE, 0]),
-        (not_after(), [CONFLICT, 3, 0, 0]),
-        (left_recursion(), [CONFLICT, 4, 1, 0]),
-        (harmless_recursion(), [DONE, 0, 0, 64]),
-        (lone(FAIL), [BARREN, 0, 0, 0]),
-        (lone(REF), [BARREN, 0, 0, 0]),
-        (lone(EMPTY), [DONE, 0, 0, 32]),
-        (doubling(), [DONE, 0, 0, 4_120]),
-        (shared_kind_aside(), [UNUSED, 1, 0, 0]),
-        (unused_and_barren(), [UNUSED, 0, 0, 0]),
-        (unused_beside_conflict(), [UNUSED, 3, 0, 0]),
-        (reached_upward(), [DONE, 0, 0, 48]),
+        (rinse(), [DONE, 0, 114, 0, 0]),
+        (shared_kind(), [CONFLICT, 2, 0, 0, 1]),
+        (both_nullable(), [CONFLICT, 2, 0, 1, 0]),
+        (not_after(), [CONFLICT, 3, 0, 0, 1]),
+        (left_recursion(), [CONFLICT, 4, 0, 0, 2]),
+        (shared_kinds(), [CONFLICT, 3, 0, 0, 3]),
+        (both_ways(), [CONFLICT, 3, 0, 1, 1]),
+        (not_after_kinds(), [CONFLICT, 5, 0, 0, 5]),
+        (harmless_recursion(), [DONE, 0, 64, 0, 0]),
+        (lone(FAIL), [BARREN, 0, 0, 0, 0]),
+        (lone(REF), [BARREN, 0, 0, 0, 0]),
+        (lone(EMPTY), [DONE, 0, 32, 0, 0]),
+        (doubling(), [DONE, 0, 4_120, 0, 0]),
+        (shared_kind_aside(), [UNUSED, 1, 0, 0, 0]),
+        (unused_and_barren(), [UNUSED, 0, 0, 0, 0]),
+        (unused_beside_conflict(), [UNUSED, 3, 0, 0, 0]),
+        (reached_upward(), [DONE, 0, 48, 0, 0]),
     ]
 }
 
@@ -56,12 +59,13 @@ fn rinse_plan() -> Vec<u8> {
 
 /// Checks an implementation of the compiler.
 pub fn check_compile(compile: impl Fn(&[u8], &mut [u8]) -> Compiled) {
-    for (book, [number, place, kind, size]) in compile_cases() {
+    for (book, [number, place, size, both, clash]) in compile_cases() {
         let answer = Compiled {
             number,
             place,
-            kind,
             size,
+            both,
+            clash: clash.into(),
         };
         let mut plan = vec![0xA5; 5_000];
         assert_eq!(compile(&book.bytes(), &mut plan), answer, "of {book:?}");
@@ -81,7 +85,8 @@ fn check_plan_room(book: &Book, size: u32, compile: impl Fn(&[u8], &mut [u8]) ->
         let mut plan = vec![0xA5; length as usize];
         let answer = compile(&book.bytes(), &mut plan);
         assert_eq!((answer.number, answer.place), (number, 0), "of {book:?}");
-        assert_eq!((answer.kind, answer.size), (0, size), "of {book:?}");
+        assert_eq!(answer.size, size, "of {book:?}");
+        assert_eq!((answer.both, answer.clash), (0, 0), "of {book:?}");
         let written = plan.iter().any(|&byte| byte != 0);
         assert_eq!(written, number == DONE, "of {book:?}");
     }
@@ -190,10 +195,12 @@ fn listing_cases() -> Vec<(Book, &'static [u8], &'static str)> {
         (rinse(), &[0, 1, 1], "refused 14 3 2\n"),
         (rinse(), &[0, 2, 1], "refused 13 2 0\n"),
         (rinse(), &[0, 3], "refused 12 1 6\n"),
-        (shared_kind(), &[0], "refused 6 2 0\n"),
-        (both_nullable(), &[], "refused 6 2 255\n"),
-        (not_after(), &[0], "refused 6 3 0\n"),
-        (left_recursion(), &[1, 0], "refused 6 4 1\n"),
+        (shared_kind(), &[0], "refused 6 2 1 0\n"),
+        (both_nullable(), &[], "refused 6 2 0 1\n"),
+        (not_after(), &[0], "refused 6 3 1 0\n"),
+        (left_recursion(), &[1, 0], "refused 6 4 2 0\n"),
+        (both_ways(), &[], "refused 6 3 1 1\n"),
+        (not_after_kinds(), &[0], "refused 6 5 5 0\n"),
         (harmless_recursion(), &[0], "accept 1 2\n4\n3\n"),
         (lone(FAIL), &[], "refused 5 0 0\n"),
         (lone(FAIL), &[0], "refused 5 0 0\n"),

@@ -16,12 +16,11 @@ use host::worked;
 /// The longest book that is tried.
 const LONGEST_BOOK: usize = 4096;
 
-/// The compiler under test, and how often it named each sort of conflict.
+/// The compiler under test, and how often it named each sort of conflict: both sides nullable, with and without kinds
+/// that both begin with; one kind in both; several; one kind that should not follow; several.
 struct Books {
     pair: Pair,
-    both_nullable: usize,
-    shared: usize,
-    not_after: usize,
+    conflicts: [usize; 6],
 }
 
 impl Books {
@@ -29,9 +28,7 @@ impl Books {
     fn new() -> Books {
         Books {
             pair: Pair::of(&COMPILE),
-            both_nullable: 0,
-            shared: 0,
-            not_after: 0,
+            conflicts: [0; 6],
         }
     }
 
@@ -46,19 +43,24 @@ impl Books {
         self.pair.compare_at(&given(&bytes, other), edge);
         self.pair.compare_at(&given(&bytes, size), edge);
         if compiled.number == CONFLICT {
-            let form = book.nodes[compiled.place as usize].form;
-            *match (form == EITHER, compiled.kind == BOTH_NULLABLE) {
-                (true, true) => &mut self.both_nullable,
-                (true, false) => &mut self.shared,
-                (false, _) => &mut self.not_after,
-            } += 1;
+            let either = book.nodes[compiled.place as usize].form == EITHER;
+            let sort = match (either, compiled.both, compiled.clash.count_ones()) {
+                (true, 1, 1..) => 0,
+                (true, 1, 0) => 1,
+                (true, 0, 1) => 2,
+                (true, 0, _) => 3,
+                (_, _, 1) => 4,
+                (_, _, _) => 5,
+            };
+            self.conflicts[sort] += 1;
         }
     }
 
-    /// Fails unless each way to conflict was met at least so often.
-    fn expect_conflicts(&self, least: usize) {
-        let met = [self.both_nullable, self.shared, self.not_after];
-        assert!(met.iter().all(|&count| count >= least), "met {met:?}");
+    /// Fails unless each sort of conflict was met at least so often.
+    fn expect_conflicts(&self, least: [usize; 6]) {
+        let met = self.conflicts;
+        let enough = met.iter().zip(least).all(|(&count, least)| count >= least);
+        assert!(enough, "met {met:?}");
     }
 }
 
@@ -82,7 +84,7 @@ fn every_small_book() {
     let tally = &books.pair.tally;
     tally.expect(&[BARREN, CONFLICT, UNUSED], 7_000);
     tally.expect(&[DONE, PLAN_ROOM], 2_000);
-    books.expect_conflicts(16);
+    books.expect_conflicts([8, 1_000, 2_000, 4, 16, 0]);
 }
 
 /// Random well-formed books of all shapes.
@@ -102,7 +104,7 @@ fn random_books() {
         .pair
         .tally
         .expect(&[DONE, BARREN, CONFLICT, PLAN_ROOM, UNUSED], 10_000);
-    books.expect_conflicts(2_000);
+    books.expect_conflicts([300, 4_000, 10_000, 600, 5_000, 2_000]);
 }
 
 /// Books of up to 512 nodes and 64 kinds.

@@ -41,13 +41,14 @@ fn check_compiled(book: &[u8], plan: &[u8]) {
     let mut room = vec![0xA5; plan.len()];
     for (number, length) in [(DONE, plan.len()), (PLAN_ROOM, plan.len() - 1)] {
         let compiled = compile(book, &mut room[..length]);
-        let answer = (
-            compiled.number,
-            compiled.place,
-            compiled.kind,
-            compiled.size,
-        );
-        assert_eq!(answer, (number, 0, 0, size), "{} bytes", book.len());
+        let wanted = Compiled {
+            number,
+            place: 0,
+            size,
+            both: 0,
+            clash: 0,
+        };
+        assert_eq!(compiled, wanted, "{} bytes", book.len());
         match number {
             DONE => assert!(room == plan, "the plan of {} bytes", book.len()),
             _ => assert!(room[..length].iter().all(|&byte| byte == 0)),

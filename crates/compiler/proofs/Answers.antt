@@ -28,7 +28,7 @@ table-blank bytes good = blank-less (omega (arith, formed bytes good .size .few-
 
 -- 1 to 6 and 22: what judging says
 pub answered-refused : {bytes plan : List ℕ} {room : ℕ} {v : Verdict} {a : Compiled} → Judges bytes v → v .number ≢ DONE
-    → (a ≡ answer (v .number) (v .place) (v .kind) 0) × (plan ≡ zeros room) → Compiles bytes room a plan
+    → (a ≡ answer (v .number) (v .place) 0 (v .both) (v .clash)) × (plan ≡ zeros room) → Compiles bytes room a plan
 answered-refused judges bad (a-is, clear) = rw (a-is, clear) (refused judges bad)
 
 module _ {bytes table : List ℕ} (known : Known bytes (bookOf bytes .count) table) {count kinds : ℕ}
@@ -40,14 +40,14 @@ module _ {bytes table : List ℕ} (known : Known bytes (bookOf bytes .count) tab
       let wf = book-well-formed (known .good) in
       (omega (arith, wf .few-nodes, count-is ∙ book-count bytes), omega (arith, wf .few-kinds, kinds-is ∙ book-kinds bytes))
 
-module _ {bytes table : List ℕ} (known : Known bytes (bookOf bytes .count) table) (judges : Judges bytes (judgement DONE 0 0))
+module _ {bytes table : List ℕ} (known : Known bytes (bookOf bytes .count) table) (judges : Judges bytes (judgement DONE 0 0 0))
     {count kinds size : ℕ}
     (count-is : count ≡ countOf (length bytes)) (kinds-is : kinds ≡ u16At bytes settingsAt) (size-is : size ≡ planSize count kinds) where
   size-own : size ≡ sizeOf (bookOf bytes)
   size-own = size-is ∙ ap₂ planSize (count-is ∙ book-count bytes) (kinds-is ∙ book-kinds bytes)
 
   -- 7: the plan buffer is shorter than the plan
-  pub answered-no-room : {plan : List ℕ} {room : ℕ} {a : Compiled} → room < size → (a ≡ answer PLAN-ROOM 0 0 size) × (plan ≡ zeros room)
+  pub answered-no-room : {plan : List ℕ} {room : ℕ} {a : Compiled} → room < size → (a ≡ answer PLAN-ROOM 0 size 0 0) × (plan ≡ zeros room)
       → Compiles bytes room a plan
   answered-no-room short (a-is, clear) = rw (a-is, clear, size-own) (no-room judges (rw size-own at short))
 
@@ -71,7 +71,7 @@ module _ {bytes table : List ℕ} (known : Known bytes (bookOf bytes .count) tab
 
     -- 0: done
     pub answered-done : {written : List ℕ} {a : Compiled} → ((i : ℕ) → getD table i 0 < 2 ^ 64)
-        → a ≡ answer DONE 0 0 size → written ≡ planBytes bytes (marksOf table count) ++ zeros (length plan - planSize count kinds)
+        → a ≡ answer DONE 0 size 0 0 → written ≡ planBytes bytes (marksOf table count) ++ zeros (length plan - planSize count kinds)
         → Compiles bytes room a written
     answered-done fits a-is written-is =
         rw (a-is, written-is, long, ← size-is, size-own, count-is, book-count bytes)

@@ -12,10 +12,12 @@ use mathlib.Core.List.{List, _++_}
 use Rattle.words.specs.Words.{zeros}
 use Rattle.book.specs.Form.{DONE, formOf, bookOf}
 use Rattle.book.proofs.Decoded.{Formed, formed}
+use Rattle.grammar.specs.Rules.{Conflict}
 use Rattle.grammar.specs.Passing.{AllReached, Fruitful, NoConflict, Passes}
 use Rattle.verdict.specs.declared.Verdict.{Verdict}
-use Rattle.verdict.specs.Judges.{UNUSED, judgement, Judges}
+use Rattle.verdict.specs.Judges.{UNUSED, CONFLICT, NoConflictBelow, Told, judgement, Judges}
 use Rattle.verdict.proofs.Passing.{passed as judged-passed, passed-judges, passes-exactly as judged-exactly, verdict-listed}
+use Rattle.verdict.proofs.Passing.{conflict-tells as judged-tells, others-silent as judged-silent}
 use Rattle.verdict.proofs.Some.{judges-some}
 use Rattle.verdict.proofs.Unique.{judges-unique}
 use Rattle.running.specs.Cells.{Marks, Marked, cellOf}
@@ -29,7 +31,7 @@ use Rattle.compiler.proofs.Unique.{marks-unique}
 
 -- what is so where a book passes
 pub record Passed (bytes : List ℕ) (room : ℕ) (plan : List ℕ) : Type 0 where
-  pub judges : Judges bytes (judgement DONE 0 0)
+  pub judges : Judges bytes (judgement DONE 0 0 0)
   pub fits : sizeOf (bookOf bytes) ≤ room
   pub marks : Marks
   pub marked : Marked (bookOf bytes .node) marks
@@ -55,7 +57,7 @@ module _ {bytes : List ℕ} {room : ℕ} where
     pub passed-plan : {marks : Marks} → Marked (bookOf bytes .node) marks → p ≡ planBytes bytes marks ++ zeros (room - sizeOf (bookOf bytes))
     passed-plan marked = rw (marks-unique marked (passed c is .marked)) (passed c is .plan-is)
 
-  done-room : {a : Compiled} {p : List ℕ} → Compiles bytes room a p → sizeOf (bookOf bytes) ≤ room → Judges bytes (judgement DONE 0 0)
+  done-room : {a : Compiled} {p : List ℕ} → Compiles bytes room a p → sizeOf (bookOf bytes) ≤ room → Judges bytes (judgement DONE 0 0 0)
       → a .number ≡ DONE
   done-room (refused judges bad) fits good = absurd (bad (ap (λ (v : Verdict). v .number) (judges-unique judges good)))
   done-room (no-room _ short) fits good = absurd (omega arith)
@@ -79,7 +81,7 @@ module _ {bytes : List ℕ} {room : ℕ} where
   passes-exactly c form fits = let judges = judges-some bytes .1 in Iff·trans (passes-judged c judges fits) (judged-exactly judges form)
 
 -- the size of the plan of a book that passes
-plan-small : (bytes : List ℕ) → Judges bytes (judgement DONE 0 0) → sizeOf (bookOf bytes) ≤ 36376
+plan-small : (bytes : List ℕ) → Judges bytes (judgement DONE 0 0 0) → sizeOf (bookOf bytes) ≤ 36376
 plan-small bytes judges =
     let book = judged-passed judges refl .by-rules .well-formed in
     size-small (bookOf bytes .count) (bookOf bytes .kinds) (book .few-nodes) (book .few-kinds)
@@ -102,6 +104,21 @@ pub size-most : {bytes : List ℕ} {room : ℕ} {a : Compiled} {p : List ℕ} �
 size-most (refused _ _) = omega arith
 size-most {bytes} (no-room judges _) = plan-small bytes judges
 size-most {bytes} (done judges _ _) = plan-small bytes judges
+
+-- CONFLICT tells of the lowest node that has one
+pub conflict-tells : {bytes : List ℕ} {room : ℕ} {a : Compiled} {p : List ℕ} → Compiles bytes room a p → a .number ≡ CONFLICT
+    → NoConflictBelow (bookOf bytes) (a .place) × Conflict (bookOf bytes .node) (bookOf bytes .node (a .place))
+    × Told (bookOf bytes .node) (bookOf bytes .node (a .place)) (a .both) (a .clash)
+conflict-tells (refused judges _) is = judged-tells judges is
+conflict-tells (no-room _ _) is = absurd (omega arith)
+conflict-tells (done _ _ _) is = absurd (omega arith)
+
+-- any other number tells of none
+pub others-silent : {bytes : List ℕ} {room : ℕ} {a : Compiled} {p : List ℕ} → Compiles bytes room a p → a .number ≢ CONFLICT
+    → (a .both ≡ 0) × (a .clash ≡ 0)
+others-silent (refused judges _) other = judged-silent judges other
+others-silent (no-room _ _) other = (refl, refl)
+others-silent (done _ _ _) other = (refl, refl)
 
 -- PLAN ROOM is answered only for a book of good form whose plan is larger than the room
 pub room-short : {bytes : List ℕ} {room : ℕ} {a : Compiled} {p : List ℕ}

@@ -32,7 +32,7 @@ marks-unique f g =
     }
 
 -- a book that passes is not refused
-not-both : {bytes : List ℕ} {v : Verdict} {A : Type 0} → Judges bytes v → v .number ≢ DONE → Judges bytes (judgement DONE 0 0) → A
+not-both : {bytes : List ℕ} {v : Verdict} {A : Type 0} → Judges bytes v → v .number ≢ DONE → Judges bytes (judgement DONE 0 0 0) → A
 not-both judges bad good = absurd (bad (ap (λ (v : Verdict). v .number) (judges-unique judges good)))
 
 -- no two rows of the table of answers hold together, and each row determines the answer and the plan buffer
@@ -41,7 +41,7 @@ pub compiles-unique : {bytes : List ℕ} {room : ℕ} {a a′ : Compiled} {p p�
     → Compiles bytes room a′ p′
     → (a ≡ a′) × (p ≡ p′)
 compiles-unique (refused judges _) (refused judges′ _) =
-    (ap (λ (v : Verdict). answer (v .number) (v .place) (v .kind) 0) (judges-unique judges judges′), refl)
+    (ap (λ (v : Verdict). answer (v .number) (v .place) 0 (v .both) (v .clash)) (judges-unique judges judges′), refl)
 compiles-unique (refused judges bad) (no-room good _) = not-both judges bad good
 compiles-unique (refused judges bad) (done good _ _) = not-both judges bad good
 compiles-unique (no-room good _) (refused judges bad) = not-both judges bad good

@@ -17,9 +17,10 @@ use Rattle.compiler.specs.declared.Compiled.{Compiled}
 abbrev pub PLAN-ROOM : ℕ
 PLAN-ROOM = 7
 
--- an answer: number, place, kind, size
-abbrev pub answer : ℕ → ℕ → ℕ → ℕ → Compiled
-answer number place kind size = record { number = number; place = place; kind = kind; size = size }
+-- an answer: number, place, size, and of a conflict the flag and the set
+abbrev pub answer : ℕ → ℕ → ℕ → ℕ → ℕ → Compiled
+answer number place size both clash =
+    record { number = number; place = place; size = size; both = both; clash = clash }
 
 -- the size of a book's plan
 abbrev pub sizeOf : Book → ℕ
@@ -30,15 +31,15 @@ pub data Compiles (bytes : List ℕ) (room : ℕ) : Compiled → List ℕ → Ty
   refused : {v : Verdict}
       → Judges bytes v
       → v .number ≢ DONE
-      → Compiles bytes room (answer (v .number) (v .place) (v .kind) 0) (zeros room)
-  no-room : Judges bytes (judgement DONE 0 0)
+      → Compiles bytes room (answer (v .number) (v .place) 0 (v .both) (v .clash)) (zeros room)
+  no-room : Judges bytes (judgement DONE 0 0 0)
       → room < sizeOf (bookOf bytes)
-      → Compiles bytes room (answer PLAN-ROOM 0 0 (sizeOf (bookOf bytes))) (zeros room)
+      → Compiles bytes room (answer PLAN-ROOM 0 (sizeOf (bookOf bytes)) 0 0) (zeros room)
   done : {marks : Marks}
-      → Judges bytes (judgement DONE 0 0)
+      → Judges bytes (judgement DONE 0 0 0)
       → sizeOf (bookOf bytes) ≤ room
       → Marked (bookOf bytes .node) marks
       → Compiles bytes
       room
-      (answer DONE 0 0 (sizeOf (bookOf bytes)))
+      (answer DONE 0 (sizeOf (bookOf bytes)) 0 0)
       (planBytes bytes marks ++ zeros (room - sizeOf (bookOf bytes)))

@@ -22,32 +22,42 @@ pub const PLAN_ROOM: u32 = 7;
 // The longest book for which a small table of facts does: 64 nodes.
 const SMALL_BOOK: usize = 402;
 
-// What compiling answers.
+// What compiling answers; of a conflict the flag that both sides are nullable, and the set of the kinds that clash.
 #[repr(C)]
 pub struct Compiled {
     pub number: u32,
     pub place: u32,
-    pub kind: u32,
     pub size: u32,
+    pub both: u32,
+    pub clash: u64,
 }
 
-// The answer with a number, a place, a kind and a size, and a clear plan buffer.
-fn answered(number: u32, place: u32, kind: u32, size: usize, plan: &mut [u8]) -> Compiled
+// The answer with a number, a place, a size, a flag and a set, and a clear plan buffer.
+fn answered(
+    number: u32,
+    place: u32,
+    size: usize,
+    both: u32,
+    clash: u64,
+    plan: &mut [u8],
+) -> Compiled
     requires { ⌜ size < 2 ^ 32 ⌝ }
-    ensures { λ r. ⌜ (r ≡ answer number place kind size) × (now (plan .exit) ≡ zeros (length (now (plan .entry)))) ⌝ }
+    ensures { λ r.
+        ⌜ (r ≡ answer number place size both clash) × (now (plan .exit) ≡ zeros (length (now (plan .entry)))) ⌝ }
 {
     clear_bytes(plan);
     Compiled {
         number,
         place,
-        kind,
         size: size as u32,
+        both,
+        clash,
     }
 }
 
 // Compiles a book that passes, with its facts at hand: PLAN ROOM, or done with the plan.
 fn put_plan(book: &[u8], table: &[u64], plan: &mut [u8]) -> Compiled
-    requires { ⌜ Judges (now book) (judgement DONE 0 0) ⌝ }
+    requires { ⌜ Judges (now book) (judgement DONE 0 0 0) ⌝ }
     requires { ⌜ Known (now book) (bookOf (now book) .count) (now table) ⌝ }
     ensures { λ r. ⌜ Compiles (now (book .entry)) (length (now (plan .entry))) r (now (plan .exit)) ⌝ }
 {
@@ -55,9 +65,9 @@ fn put_plan(book: &[u8], table: &[u64], plan: &mut [u8]) -> Compiled
     let kinds = u16_at(book, SETTINGS_AT);
     let size = plan_size(count, kinds);
     if plan.len() < size {
-        return answered(PLAN_ROOM, 0, 0, size, plan);
+        return answered(PLAN_ROOM, 0, size, 0, 0, plan);
     }
-    let done = answered(DONE, 0, 0, size, plan);
+    let done = answered(DONE, 0, size, 0, 0, plan);
     write_plan(book, count, kinds, table, plan);
     done
 }
@@ -69,7 +79,14 @@ fn compile_by(book: &[u8], table: &mut [u64], plan: &mut [u8]) -> Compiled
 {
     let verdict = verdict::judge(book, table);
     if verdict.number != DONE {
-        return answered(verdict.number, verdict.place, verdict.kind, 0, plan);
+        return answered(
+            verdict.number,
+            verdict.place,
+            0,
+            verdict.both,
+            verdict.clash,
+            plan,
+        );
     }
     put_plan(book, table, plan)
 }

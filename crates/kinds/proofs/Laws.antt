@@ -2,16 +2,16 @@
 use Prim.Native.Nat.{ℕ, zero, suc, _+_, _-_, _*_, _/_, _%_, _^_, _≤_, _<_, min, max}
 use mathlib.Core.Path.{_≡_, refl, sym, ap, subst, _∙_}
 use mathlib.Core.Logic.{_↔_, _≢_, _⊎_, inl, inr, ⊎-elim, Iff·trans}
-use mathlib.Core.Bool.{true}
-use native.Mathlib.Nat.{mod-lt, div-eq-of-lt, div-self, lt-of-lt-of-le, pow-suc}
+use mathlib.Core.Bool.{Bool, true, false, cond, true≢false}
+use native.Mathlib.Nat.{mod-lt, div-eq-of-lt, div-self, lt-of-lt-of-le, pow-suc, one-mul, zero-add}
 use native.Mathlib.Decide.{ℕ-discrete, decLt}
 use native.Mathlib.Omega.{arith}
 use borrow.Author.Tests.{eqb-true, eq-eqb}
 use lib.Dec.{lit<}
 use lib.Pow.{pow-mono, pow-lt, pow-pos, shr-shr, ones-split, ones-lt, high}
-use lib.Bits.{bitAnd, bitOr, bitXor, differ, and-shr, or-shr, xor-shr, and-step, or-step, xor-step, xor-lt, and-le-r}
+use lib.Bits.{bitAnd, bitOr, bitXor, differ, and-shr, or-shr, xor-shr, and-step, or-step, xor-step, xor-lt, and-le-r, or-shifted}
 use lib.Count.{trailingZeros, under, trailing-of-zero}
-use Rattle.kinds.specs.Kinds.{Has, has?, everyKind, onlyKind, joined, inBoth, withoutKind, lowestKind, LowestIn}
+use Rattle.kinds.specs.Kinds.{Has, has?, everyKind, onlyKind, setOf, joined, inBoth, withoutKind, lowestKind, LowestIn}
 
 -- the test decides
 pub has?-is : (mask k : ℕ) → (has? mask k ≡ true) ↔ Has mask k
@@ -96,6 +96,46 @@ has-shared a b k = (
   (λ h. (record { bit = omega (arith, h .bit, and-bit a b k) }, record { bit = omega (arith, h .bit, and-bit a b k) })),
   (λ h. record { bit = omega (arith, h .0 .bit, h .1 .bit, and-bit a b k) }),
 )
+
+-- the set of what passes a test is within its width
+pub set-small : (test : ℕ → Bool) (width : ℕ) → setOf test width < 2 ^ width
+unfolding setOf
+set-small test zero = lit< tt
+set-small test (suc width) = go (test width) (set-small test width)
+  where
+    go : (t : Bool) → setOf test width < 2 ^ width → cond t (2 ^ width) 0 + setOf test width < 2 ^ suc width
+    go true h = omega (arith, pow-suc 2 width)
+    go false h = omega (arith, pow-suc 2 width)
+
+-- and has what passes the test below its width
+pub has-set : (test : ℕ → Bool) (width k : ℕ) → Has (setOf test width) k ↔ ((k < width) × (test k ≡ true))
+unfolding setOf
+has-set test zero k = ((λ h. absurd (none h)), (λ p. absurd (omega (arith, p .0))))
+has-set test (suc width) k = go (test width) refl (has-set test width k)
+  where
+    more : 2 ^ width + setOf test width ≡ joined (onlyKind width) (setOf test width)
+    more = rw one-mul at (sym (or-shifted 1 width (setOf test width) (set-small test width)))
+
+    go : (t : Bool) → test width ≡ t → Has (setOf test width) k ↔ ((k < width) × (test k ≡ true))
+        → Has (cond t (2 ^ width) 0 + setOf test width) k ↔ ((k < suc width) × (test k ≡ true))
+    go true e (to, from) = rw more (
+      (λ h.
+          ⊎-elim (λ one. let same = has-single k width .0 one in (omega (arith, same), rw same e)) (λ low. (omega (arith, to low .0), to low .1))
+          (has-join (onlyKind width) (setOf test width) k .0 h)),
+      (λ p. has-join (onlyKind width) (setOf test width) k .1 (last p (ℕ-discrete k width))),
+    )
+      where
+        last : (k < suc width) × (test k ≡ true) → Dec (k ≡ width) → Has (onlyKind width) k ⊎ Has (setOf test width) k
+        last p (yes same) = inl (has-single k width .1 same)
+        last p (no other) = inr (from (omega (arith, p .0), p .1))
+    go false e (to, from) = (
+      (λ h. let low = to (rw zero-add at h) in (omega (arith, low .0), low .1)),
+      (λ p. rw zero-add (from (below p (ℕ-discrete k width), p .1))),
+    )
+      where
+        below : (k < suc width) × (test k ≡ true) → Dec (k ≡ width) → k < width
+        below p (yes same) = absurd (true≢false (sym (p .1) ∙ rw same e))
+        below p (no other) = omega (arith, p .0)
 
 -- the digits of a bit that a set has not, and of one that it has
 differ-none : (x y : ℕ) → y ≡ 0 → differ x y ≡ x

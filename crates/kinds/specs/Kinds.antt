@@ -1,8 +1,8 @@
 -- Sets of kinds as 64-bit masks: the bit at place k says whether the kind k is in the set.
-use Prim.Native.Nat.{ℕ, _<_, _^_, _/_, _%_}
+use Prim.Native.Nat.{ℕ, zero, suc, _+_, _<_, _^_, _/_, _%_}
 use mathlib.Core.Path.{_≡_}
 use mathlib.Core.Logic.{_≢_}
-use mathlib.Core.Bool.{Bool}
+use mathlib.Core.Bool.{Bool, cond}
 use lib.Dec.{eqb}
 use lib.Bits.{bitAnd, bitOr, bitXor}
 use lib.Count.{trailingZeros}
@@ -22,6 +22,11 @@ everyKind = 18446744073709551615
 -- the set of one kind
 abbrev pub onlyKind : ℕ → ℕ
 onlyKind k = 2 ^ k
+
+-- the set of the kinds below a number that pass a test, as a sum of 2 to the power of each
+unfoldable pub setOf : (ℕ → Bool) → ℕ → ℕ
+setOf test zero = 0
+setOf test (suc k) = cond (test k) (2 ^ k) 0 + setOf test k
 
 -- the kinds of either set
 abbrev pub joined : ℕ → ℕ → ℕ

@@ -37,12 +37,19 @@ lineFeed = 10 ∷ []
 unfoldable pub spaced : ℕ → List ℕ
 spaced value = 32 ∷ digitsOf value
 
--- the most bytes of a space and a number of 64 bits, of a refusal's line, a record's line and an accepted run's lines
+-- the most bytes of a space and a number of 64 bits, of a refusal's words and its line, a conflict's line, a record's
+-- line and an accepted run's lines
 abbrev pub spacedRoom : ℕ
 spacedRoom = 21
 
+abbrev pub wordsRoom : ℕ
+wordsRoom = 7 + 3 * spacedRoom
+
 abbrev pub refusedRoom : ℕ
-refusedRoom = 71
+refusedRoom = wordsRoom + 1
+
+abbrev pub conflictRoom : ℕ
+conflictRoom = wordsRoom + spacedRoom + 1
 
 abbrev pub recordRoom : ℕ
 recordRoom = 7
@@ -77,9 +84,17 @@ unfoldable pub recordLines : List ℕ → List ℕ
 recordLines [] = []
 recordLines (entry ∷ tree) = recordLine entry ++ recordLines tree
 
--- a refusal's one line: its number, place and third value
+-- a refusal's words: its number, place and third value
+unfoldable pub refusedWords : ℕ → ℕ → ℕ → List ℕ
+refusedWords number place third = refused ++ spaced number ++ spaced place ++ spaced third
+
+-- a refusal's one line
 unfoldable pub refusedLine : ℕ → ℕ → ℕ → List ℕ
-refusedLine number place third = refused ++ spaced number ++ spaced place ++ spaced third ++ lineFeed
+refusedLine number place third = refusedWords number place third ++ lineFeed
+
+-- a conflict's: its number, place, set of kinds and flag
+unfoldable pub conflictLine : ℕ → ℕ → ℕ → ℕ → List ℕ
+conflictLine number place kinds flag = refusedWords number place kinds ++ spaced flag ++ lineFeed
 
 -- an accepted run: its events and records, then one record a line
 unfoldable pub acceptedLines : ℕ → ℕ → List ℕ → List ℕ

@@ -6,14 +6,18 @@ ghost use Rattle.lines.specs.Lines.{
   Put,
   digitsOf,
   spacedRoom,
+  wordsRoom,
   refusedRoom,
+  conflictRoom,
   recordRoom,
   acceptedRoom,
   spaced,
   recordText,
   recordLine,
   recordLines,
+  refusedWords,
   refusedLine,
+  conflictLine,
   acceptedLines,
 };
 use reader::EMPTY;
@@ -55,15 +59,33 @@ fn put_spaced(out: &mut [u8], at: usize, value: u64) -> usize
     put_number(out, next, value)
 }
 
+// Puts a refusal's words, and answers the place after them.
+fn put_words(out: &mut [u8], number: u64, place: u64, third: u64) -> usize
+    requires { ⌜ wordsRoom ≤ length (now out) ⌝ }
+    ensures { λ r. ⌜ Put (now (out .entry)) (now (out .exit)) 0 r (refusedWords number place third) × (r ≤ wordsRoom) ⌝ }
+{
+    let word = put_bytes(out, 0, b"refused");
+    let first = put_spaced(out, word, number);
+    let second = put_spaced(out, first, place);
+    put_spaced(out, second, third)
+}
+
 // Puts a refusal's line, and answers its length.
 pub fn put_refused(out: &mut [u8], number: u64, place: u64, third: u64) -> usize
     requires { ⌜ refusedRoom ≤ length (now out) ⌝ }
     ensures { λ r. ⌜ Put (now (out .entry)) (now (out .exit)) 0 r (refusedLine number place third) ⌝ }
 {
-    let word = put_bytes(out, 0, b"refused");
-    let first = put_spaced(out, word, number);
-    let second = put_spaced(out, first, place);
-    let last = put_spaced(out, second, third);
+    let last = put_words(out, number, place, third);
+    put_bytes(out, last, b"\n")
+}
+
+// Puts a conflict's line, with its set of kinds and its flag, and answers its length.
+pub fn put_conflict(out: &mut [u8], number: u64, place: u64, kinds: u64, flag: u64) -> usize
+    requires { ⌜ conflictRoom ≤ length (now out) ⌝ }
+    ensures { λ r. ⌜ Put (now (out .entry)) (now (out .exit)) 0 r (conflictLine number place kinds flag) ⌝ }
+{
+    let words = put_words(out, number, place, kinds);
+    let last = put_spaced(out, words, flag);
     put_bytes(out, last, b"\n")
 }
 

@@ -6,11 +6,27 @@ use mathlib.Core.List.{List}
 use lib.ListN.{length, take}
 use borrow.Author.Tests.{eq-eqb, ne-eqb}
 use Rattle.book.specs.Form.{DONE}
+use Rattle.verdict.specs.Judges.{CONFLICT}
+use Rattle.compiler.specs.declared.Compiled.{Compiled}
 use Rattle.reader.specs.declared.Reading.{Reading}
 use Rattle.reader.specs.Reads.{Reads, Outcome, outcome, readOf}
 use Rattle.reader.proofs.Answers.{read-told, records-fit}
-use Rattle.lines.specs.Lines.{Put, acceptedLines, refusedLine}
-use Rattle.listed.specs.Listing.{slotRoom, treeRoom, thirdOf, readingLines}
+use Rattle.lines.specs.Lines.{Put, acceptedLines, refusedLine, conflictLine}
+use Rattle.listed.specs.Listing.{slotRoom, treeRoom, compiledLine, thirdOf, readingLines}
+
+module _ {out end : List ℕ} {last : ℕ} (answer : Compiled) where
+  -- the line of a conflict
+  pub put-if-conflict : answer .number ≡ CONFLICT
+      → Put out end 0 last (conflictLine (answer .number) (answer .place) (answer .clash) (answer .both))
+      → Put out end 0 last (compiledLine answer)
+  unfolding compiledLine
+  put-if-conflict is p = rw (eq-eqb (answer .number) CONFLICT is) p
+
+  -- the line of another refusal of a book
+  pub put-if-other : answer .number ≢ CONFLICT → Put out end 0 last (refusedLine (answer .number) (answer .place) 0)
+      → Put out end 0 last (compiledLine answer)
+  unfolding compiledLine
+  put-if-other other p = rw (ne-eqb (answer .number) CONFLICT other) p
 
 module _ {out end : List ℕ} {last : ℕ} (events : ℕ) (answer : Reading) (tree : List ℕ) where
   -- the lines of a run that was accepted

@@ -11,7 +11,9 @@ use borrow.Author.Tests.{leb-true, le-leb, eqb-true, eq-eqb}
 use Rattle.words.proofs.Tests.{both, never}
 use Rattle.book.specs.Form.{DONE}
 use Rattle.reader.specs.Reads.{Outcome}
-use Rattle.lines.specs.Lines.{refusedLine, acceptedLines}
+use Rattle.verdict.specs.Judges.{CONFLICT}
+use Rattle.compiler.specs.declared.Compiled.{Compiled}
+use Rattle.lines.specs.Lines.{refusedWords, refusedLine, conflictLine, acceptedLines}
 use Rattle.listed.specs.Listing.{
   inputRoom,
   planRoom,
@@ -76,18 +78,25 @@ enough-suffices {buffer} {size} {out} {plan} {held} {tree} enough =
 
 -- something, for every input
 readingLines-some : (events : ℕ) (read : Outcome) → 0 < length (readingLines events read)
-unfolding readingLines acceptedLines refusedLine
+unfolding readingLines acceptedLines refusedLine refusedWords
 readingLines-some events read = go (eqb (read .reading .number) DONE) refl
   where
     go : (done : Bool) → eqb (read .reading .number) DONE ≡ done → 0 < length (readingLines events read)
     go true e = rw e (omega arith)
     go false e = rw e (omega arith)
 
+compiledLine-some : (answer : Compiled) → 0 < length (compiledLine answer)
+unfolding compiledLine refusedLine conflictLine refusedWords
+compiledLine-some answer = go (eqb (answer .number) CONFLICT) refl
+  where
+    go : (conflict : Bool) → eqb (answer .number) CONFLICT ≡ conflict → 0 < length (compiledLine answer)
+    go true e = rw e (omega arith)
+    go false e = rw e (omega arith)
+
 pub lists-bytes : {input bytes : List ℕ} → Lists input bytes → 0 < length bytes
-unfolding compiledLine refusedLine
 lists-bytes (too-long _) = omega arith
 lists-bytes (too-short _) = omega arith
-lists-bytes (book-refused _ _ _) = omega arith
+lists-bytes (book-refused _ _ _) = compiledLine-some _
 lists-bytes (run-read _ _ _) = readingLines-some _ _
 
 module _ {input before : List ℕ} where

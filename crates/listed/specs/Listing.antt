@@ -8,6 +8,7 @@ use lib.Dec.{ltb, leb, eqb}
 use lib.ListN.{length, take, drop}
 use Rattle.words.specs.Words.{u16At}
 use Rattle.book.specs.Form.{DONE}
+use Rattle.verdict.specs.Judges.{CONFLICT}
 use Rattle.compiler.specs.declared.Compiled.{Compiled}
 use Rattle.compiler.specs.Compiles.{Compiles}
 use Rattle.reader.specs.declared.Reading.{Reading}
@@ -15,7 +16,8 @@ use Rattle.reader.specs.Numbers.{NO-ROOM}
 use Rattle.reader.specs.Reads.{Outcome, readOf}
 use Rattle.listed.specs.declared.Shape.{Shape}
 use Rattle.listed.specs.declared.Shape.the-variants.{TooLong, TooShort, Whole}
-use Rattle.lines.specs.Lines.{refusedRoom, acceptedRoom, inputTooLong, inputTooShort, refusedLine, acceptedLines}
+use Rattle.lines.specs.Lines.{refusedRoom, acceptedRoom, inputTooLong, inputTooShort}
+use Rattle.lines.specs.Lines.{refusedLine, conflictLine, acceptedLines}
 
 -- the longest book, and the room for events
 abbrev pub longestBook : ℕ
@@ -63,9 +65,13 @@ shapeOf input =
     TooShort
     (cond (ltb (2 + bookSize input + eventRoom) (length input)) TooLong Whole)))
 
--- what is written for a book that is refused: the third value is the kind
+-- what is written for a book that is refused: at a conflict the third value is the set of kinds, and after it comes
+-- the flag; else the third value is 0
 unfoldable pub compiledLine : Compiled → List ℕ
-compiledLine answer = refusedLine (answer .number) (answer .place) (answer .kind)
+compiledLine answer =
+    cond (eqb (answer .number) CONFLICT)
+    (conflictLine (answer .number) (answer .place) (answer .clash) (answer .both))
+    (refusedLine (answer .number) (answer .place) 0)
 
 -- the third value of a reading's refusal: the records at NO ROOM, else the kinds expected
 unfoldable pub thirdOf : Reading → ℕ

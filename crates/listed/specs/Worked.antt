@@ -32,18 +32,20 @@ pub data Each : List Case → Type 0 where
   and : {one : Case} {others : List Case} → Holds one → Each others → Each (one ∷ others)
 
 -- no input, half a length, lengths of 3,090 and 3,091 without their books; books that are refused; the rinse book's
--- worked runs; more records than 8,192; all 64 kinds expected
+-- worked runs; more records than 8,192; all 64 kinds
 unfoldable pub table : List Case
 table =
     given [] "input too short\n"
     ∷ given (0 ∷ []) "input too short\n"
     ∷ given (18 ∷ 12 ∷ []) "input too short\n"
     ∷ given (19 ∷ 12 ∷ []) "input too long\n"
-    ∷ compiled (answer 3 5 0 0) "refused 3 5 0\n"
-    ∷ compiled (answer BARREN 0 0 0) "refused 5 0 0\n"
-    ∷ compiled (answer CONFLICT 2 255 0) "refused 6 2 255\n"
-    ∷ compiled (answer CONFLICT 4 1 0) "refused 6 4 1\n"
-    ∷ compiled (answer UNUSED 1 0 0) "refused 22 1 0\n"
+    ∷ compiled (answer 3 5 0 0 0) "refused 3 5 0\n"
+    ∷ compiled (answer BARREN 0 0 0 0) "refused 5 0 0\n"
+    ∷ compiled (answer UNUSED 1 0 0 0) "refused 22 1 0\n"
+    ∷ compiled (answer CONFLICT 2 0 0 1) "refused 6 2 1 0\n"
+    ∷ compiled (answer CONFLICT 2 0 1 0) "refused 6 2 0 1\n"
+    ∷ compiled (answer CONFLICT 4 0 0 2) "refused 6 4 2 0\n"
+    ∷ compiled (answer CONFLICT 511 0 1 18446744073709551615) "refused 6 511 18446744073709551615 1\n"
     ∷ read 3 (answered DONE 3 8 0) (8 ∷ 0 ∷ 7 ∷ 6 ∷ 5 ∷ 1 ∷ 32772 ∷ 2 ∷ []) "accept 3 8\n8\n0\n7\n6\n5\n1\n-4\n2\n"
     ∷ read 2 (answered DONE 2 5 0) (8 ∷ 0 ∷ 7 ∷ 32774 ∷ 2 ∷ 0 ∷ 0 ∷ []) "accept 2 5\n8\n0\n7\n-6\n2\n"
     ∷ read 3 (answered DEEP 1 0 0) [] "refused 11 1 0\n"

@@ -2,7 +2,7 @@
 ghost use mathlib.Core.Path.{_≡_};
 ghost use Prim.Native.Nat.{_≤_};
 ghost use lib.ListN.{length};
-ghost use Rattle.lines.specs.Lines.{Put, refusedRoom};
+ghost use Rattle.lines.specs.Lines.{Put, conflictRoom};
 ghost use Rattle.listed.specs.Listing.{
   Room,
   RunLent,
@@ -23,10 +23,12 @@ use compiler::Compiled;
 use compiler::compile;
 use lines::put_accepted;
 use lines::put_bytes;
+use lines::put_conflict;
 use lines::put_refused;
 use reader::NO_ROOM;
 use reader::Reading;
 use reader::read;
+use verdict::CONFLICT;
 use words::u16_at;
 
 // The longest book, and the room for events.
@@ -63,15 +65,15 @@ fn shape_of(input: &[u8]) -> Shape
 
 // Puts the line of a book that is refused, and answers its length.
 fn put_compiled(out: &mut [u8], answer: Compiled) -> usize
-    requires { ⌜ refusedRoom ≤ length (now out) ⌝ }
+    requires { ⌜ conflictRoom ≤ length (now out) ⌝ }
     ensures { λ r. ⌜ Put (now (out .entry)) (now (out .exit)) 0 r (compiledLine answer) ⌝ }
 {
-    put_refused(
-        out,
-        answer.number as u64,
-        answer.place as u64,
-        answer.kind as u64,
-    )
+    let number = answer.number as u64;
+    let place = answer.place as u64;
+    if answer.number == CONFLICT {
+        return put_conflict(out, number, place, answer.clash, answer.both as u64);
+    }
+    put_refused(out, number, place, 0)
 }
 
 // The third value of a reading's refusal: the records at NO ROOM, else the kinds expected.

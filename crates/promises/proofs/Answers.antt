@@ -12,14 +12,24 @@ use Rattle.compiler.specs.declared.Compiled.{Compiled}
 use Rattle.compiler.specs.Compiles.{Compiles, sizeOf}
 use Rattle.compiler.proofs.Unique.{marks-unique}
 use Rattle.compiler.proofs.Promise.{answer-listed, size-most, room-kept, refused-clear, passed, passed-plan, passed-cell, passed-last}
+use Rattle.compiler.proofs.Promise.{conflict-tells, others-silent}
 use Rattle.reader.specs.Reads.{Outcome, readOf}
 use Rattle.reader.proofs.Answers.{read-told, number-listed, tree-length, refused-zero, records-counted, records-bounded}
 use Rattle.reader.proofs.Settles.{read-slotless}
-use Rattle.promises.specs.Promises.{CompileAnswers, ReadAnswers, PlanByRules}
+use Rattle.promises.specs.Promises.{CompileAnswers, ClashesTold, ReadAnswers, PlanByRules}
 
 pub compiled-answers : {bytes : List ℕ} {room : ℕ} {a : Compiled} {plan : List ℕ} → Compiles bytes room a plan → CompileAnswers room a plan
 compiled-answers compiled =
     record { listed = answer-listed compiled; most = size-most compiled; whole = room-kept compiled; refused-zero = refused-clear compiled }
+
+pub clashes-told : {bytes : List ℕ} {room : ℕ} {a : Compiled} {plan : List ℕ} → Compiles bytes room a plan → ClashesTold (bookOf bytes) a
+clashes-told compiled = record {
+  conflict = λ is. conflict-tells compiled is .1;
+  lowest = λ is. conflict-tells compiled is .0;
+  kinds = λ is. conflict-tells compiled is .2 .clash-is;
+  flag = λ is. let told = conflict-tells compiled is .2 in (told .flag, told .flag-is);
+  silent = others-silent compiled;
+}
 
 pub read-answers : (plan run : List ℕ) (slots room : ℕ)
     → ReadAnswers plan run slots room (readOf plan run slots room .reading) (readOf plan run slots room .tree)

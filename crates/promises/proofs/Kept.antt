@@ -33,8 +33,8 @@ use Rattle.meaning.specs.Meaning.{tree}
 use Rattle.meaning.proofs.Walks.{walks-take}
 use Rattle.worked.specs.Worked.{Each, Holds, table}
 use Rattle.worked.proofs.Checked.{worked}
-use Rattle.promises.specs.Promises.{CompileAnswers, ReadAnswers, PassesExactly, PlanByRules, Enough, ReadsAsMeant, FewRecords, OnBiggerBoards}
-use Rattle.promises.proofs.Answers.{compiled-answers, read-answers, by-rules}
+use Rattle.promises.specs.Promises.{CompileAnswers, ReadAnswers, PassesExactly, ClashesTold, PlanByRules, Enough, ReadsAsMeant, FewRecords, OnBiggerBoards}
+use Rattle.promises.proofs.Answers.{compiled-answers, clashes-told, read-answers, by-rules}
 use Rattle.promises.proofs.More.{by-call, bigger-boards}
 use Rattle.promises.proofs.Meant.{passed-reads, passed-reads-any, passed-records, passed-no-room}
 use Rattle.promises.proofs.Readers.{not-constant, not-nodding, not-nodding-trees}
@@ -79,6 +79,11 @@ reading-answers-once one other = reads-unique one other
 -- Demand 2
 pub demand-2-passes : {bytes : List ℕ} {room : ℕ} {a : Compiled} {plan : List ℕ} → Compiles bytes room a plan → PassesExactly bytes room a
 demand-2-passes compiled = passes-exactly compiled
+
+-- what a conflict tells: the whole set of the kinds that clash
+pub conflict-tells-all : {bytes : List ℕ} {room : ℕ} {a : Compiled} {plan : List ℕ} → Compiles bytes room a plan
+    → ClashesTold (bookOf bytes) a
+conflict-tells-all compiled = clashes-told compiled
 
 pub demand-2-plan : {bytes : List ℕ} {room : ℕ} {a : Compiled} {plan : List ℕ} → Compiles bytes room a plan → a .number ≡ DONE
     → PlanByRules bytes room plan

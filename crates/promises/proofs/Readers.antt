@@ -32,7 +32,7 @@ rest-of (suc n) (and here later) = rest-of n later
 record Parting : Type 0 where
   bytes : List ℕ
   plan : List ℕ
-  compiled : Compiles bytes 114 (answer DONE 0 0 114) plan
+  compiled : Compiles bytes 114 (answer DONE 0 114 0 0) plan
   rinses : readOf (take 114 plan) (0 ∷ 1 ∷ 2 ∷ []) 2 8 ≡ outcome (answered DONE 3 8 0) (8 ∷ 0 ∷ 7 ∷ 6 ∷ 5 ∷ 1 ∷ 32772 ∷ 2 ∷ [])
   tips : readOf (take 114 plan) (0 ∷ 2 ∷ []) 2 8 ≡ outcome (answered DONE 2 5 0) (8 ∷ 0 ∷ 7 ∷ 32774 ∷ 2 ∷ 0 ∷ 0 ∷ 0 ∷ [])
   fills-again : readOf (take 114 plan) (0 ∷ 0 ∷ []) 2 8 ≡ outcome (answered UNEXPECTED 1 0 6) (zeros 8)

@@ -8,14 +8,17 @@ use mathlib.Core.Logic.{_↔_, _≢_, _⊎_}
 use mathlib.Core.List.{List, _++_}
 use lib.ListN.{length, getD}
 use Rattle.words.specs.Words.{zeros}
+use Rattle.kinds.specs.Kinds.{Has}
 use Rattle.book.specs.Book.{Book}
 use Rattle.book.specs.Form.{DONE, formOf, bookOf}
+use Rattle.grammar.specs.Rules.{Conflict}
 use Rattle.grammar.specs.Passing.{AllReached, Fruitful, NoConflict}
 use Rattle.grammar.specs.Derivations.{Lawful}
 use Rattle.running.specs.Running.{DEEP, UNKNOWN, UNEXPECTED, END, RUNAWAY, withSlots, accepted, reading}
 use Rattle.running.specs.Cells.{Marks, Marked, cellOf}
 use Rattle.plan.specs.Form.{cellAt, planCount, planOf, planJudged}
 use Rattle.writer.specs.Bytes.{planBytes}
+use Rattle.verdict.specs.Judges.{CONFLICT, Clashing, BothNullable}
 use Rattle.compiler.specs.declared.Compiled.{Compiled}
 use Rattle.compiler.specs.Compiles.{sizeOf}
 use Rattle.reader.specs.declared.Reading.{Reading}
@@ -50,6 +53,16 @@ abbrev pub PassesExactly : List ℕ → ℕ → Compiled → Type 0
 PassesExactly bytes room a =
     formOf bytes .number ≡ DONE → sizeOf (bookOf bytes) ≤ room
     → (a .number ≡ DONE) ↔ (AllReached (bookOf bytes) × Fruitful (bookOf bytes) × NoConflict (bookOf bytes))
+
+-- What CONFLICT tells, by the rules, kind by kind: its place is the lowest node that has a conflict; the set has
+-- exactly the kinds that clash there, and the flag is 1 exactly if both sides are nullable, else 0. Any other answer
+-- has 0 in both.
+pub record ClashesTold (b : Book) (a : Compiled) : Type 0 where
+  pub conflict : a .number ≡ CONFLICT → Conflict (b .node) (b .node (a .place))
+  pub lowest : a .number ≡ CONFLICT → (m : ℕ) → m < a .place → Conflict (b .node) (b .node m) → ⊥
+  pub kinds : a .number ≡ CONFLICT → (k : ℕ) → Has (a .clash) k ↔ Clashing (b .node) (b .node (a .place)) k
+  pub flag : a .number ≡ CONFLICT → (a .both ≤ 1) × ((a .both ≡ 1) ↔ BothNullable (b .node) (b .node (a .place)))
+  pub silent : a .number ≢ CONFLICT → (a .both ≡ 0) × (a .clash ≡ 0)
 
 -- Demand 2: the plan of a passed book is, cell by cell, the one those rules give: by the marks that are the facts,
 -- which are these only

@@ -7,29 +7,28 @@ use mathlib.Core.List.{List}
 use mathlib.Core.Logic.{_↔_, _≢_}
 use Rattle.kinds.specs.Kinds.{Has, has?}
 use Rattle.kinds.proofs.Laws.{has?-is}
-use Rattle.book.specs.declared.Node.{Node}
 use Rattle.book.specs.declared.Judged.{Judged}
-use Rattle.book.specs.Book.{Book, WellFormed}
+use Rattle.book.specs.Book.{WellFormed}
 use Rattle.book.specs.Form.{DONE, formOf, bookOf}
 use Rattle.grammar.specs.Rules.{Productive}
 use Rattle.grammar.specs.Passing.{AllReached, Fruitful}
 use Rattle.rules.specs.Facts.{factsAt}
-use Rattle.rules.proofs.Bounds.{first-kind, conflict-below}
-use Rattle.verdict.specs.Judges.{UNUSED, BARREN, CONFLICT, Reported, both-nullable, in-both-first, in-snf-and-first, judgement}
+use Rattle.rules.proofs.Bounds.{conflict-below}
+use Rattle.verdict.specs.Judges.{UNUSED, BARREN, CONFLICT, Told, judgement}
 use Rattle.verdict.specs.Judges.{Judges, malformed, unused, barren, conflict, passes}
-use Rattle.verdict.specs.Conflicts.{GoodBook, Known, Leaves, ConflictAt, Conflicting, Clear, LowestFound, LowestUnused}
+use Rattle.verdict.specs.Conflicts.{GoodBook, Known, Leaves, Conflicting, Clear, LowestFound, LowestUnused}
 use Rattle.verdict.proofs.Books.{book-well-formed, start-below}
 
 -- 1 to 4: what the form test says
 pub answered-malformed : {bytes table : List ℕ} {form : Judged}
     → form ≡ formOf bytes
     → form .number ≢ DONE
-    → Leaves bytes (judgement (form .number) (form .place) 0) table
+    → Leaves bytes (judgement (form .number) (form .place) 0 0) table
 answered-malformed is bad = record { judges = rw is (malformed (rw is at bad)); known = λ done. absurd (bad done) }
 
 module _ {bytes : List ℕ} {count : ℕ} (good : GoodBook bytes count) {n : ℕ} (lowest : LowestUnused (bookOf bytes) count n) where
   -- 22: the lowest node that is not reachable
-  pub answered-unused : {table : List ℕ} → n < count → Leaves bytes (judgement UNUSED n 0) table
+  pub answered-unused : {table : List ℕ} → n < count → Leaves bytes (judgement UNUSED n 0 0) table
   answered-unused below = record {
     judges = unused {n = n} (good .form) (omega (arith, good .count-is)) (lowest .passed) (lowest .found below);
     known = λ done. absurd (omega arith);
@@ -38,12 +37,6 @@ module _ {bytes : List ℕ} {count : ℕ} (good : GoodBook bytes count) {n : ℕ
   -- there is none
   pub reached-all : count ≤ n → AllReached (bookOf bytes)
   reached-all none m below = lowest .passed m (omega (arith, good .count-is))
-
--- a kind that is reported is a byte
-reported-small : (book : Book) → WellFormed book → {x : Node} {k : ℕ} → Reported (book .node) x k → k < 256
-reported-small book wf (both-nullable _ _) = omega arith
-reported-small book wf (in-both-first {r = r} _ lowest) = omega (arith, first-kind book wf r (lowest .holds .1), wf .few-kinds)
-reported-small book wf (in-snf-and-first {r = r} lowest) = omega (arith, first-kind book wf r (lowest .holds .1), wf .few-kinds)
 
 module _ {bytes : List ℕ} {count : ℕ} {table : List ℕ} (known : Known bytes count table) where
   wf : WellFormed (bookOf bytes)
@@ -59,25 +52,19 @@ module _ {bytes : List ℕ} {count : ℕ} {table : List ℕ} (known : Known byte
     fruitful has = fruitful-is .0 (has?-is _ 0 .0 has)
 
     -- 5: the start is not productive
-    pub answered-barren : AllReached (bookOf bytes) → has? (factsAt table start .productive) 0 ≡ false → Judges bytes (judgement BARREN start 0)
+    pub answered-barren : AllReached (bookOf bytes) → has? (factsAt table start .productive) 0 ≡ false → Judges bytes (judgement BARREN start 0 0)
     answered-barren reached none =
         rw start-is (barren (known .good .form) reached (λ is. true≢false (sym (has?-is _ 0 .1 (fruitful-is .1 is)) ∙ none)))
 
     module _ {n : ℕ} (lowest : LowestFound (Conflicting (bookOf bytes .node)) (Clear (bookOf bytes .node)) count n) where
-      module _ (below : n < count) {kind : ℕ} (told : ConflictAt (bookOf bytes .node) (bookOf bytes .node n) kind) where
-        kind-reported : Reported (bookOf bytes .node) (bookOf bytes .node n) kind
-        kind-reported = told .some (λ e. told .none e (lowest .found below))
-
-        pub kind-small : kind < 256
-        kind-small = reported-small (bookOf bytes) wf kind-reported
-
-        -- 6: the lowest node that has a conflict
-        pub answered-conflict : AllReached (bookOf bytes) → has? (factsAt table start .productive) 0 ≡ true
-            → Judges bytes (judgement CONFLICT n kind)
-        answered-conflict reached has = conflict (known .good .form) reached (fruitful has) (lowest .passed) kind-reported
+      -- 6: the lowest node that has a conflict
+      pub answered-conflict : {both clash : ℕ} → n < count → Told (bookOf bytes .node) (bookOf bytes .node n) both clash
+          → AllReached (bookOf bytes) → has? (factsAt table start .productive) 0 ≡ true → Judges bytes (judgement CONFLICT n both clash)
+      answered-conflict below told reached has =
+          conflict (known .good .form) reached (fruitful has) (lowest .passed) (lowest .found below) told
 
       -- 0: no node has a conflict
       pub answered-passes : AllReached (bookOf bytes) → has? (factsAt table start .productive) 0 ≡ true → count ≤ n
-          → Judges bytes (judgement DONE 0 0)
+          → Judges bytes (judgement DONE 0 0 0)
       answered-passes reached has none =
           passes (known .good .form) reached (fruitful has) (λ m c. lowest .passed m (omega (arith, conflict-below (bookOf bytes) wf m c, known .good .count-is)) c)

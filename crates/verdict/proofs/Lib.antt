@@ -1,7 +1,7 @@
 pub mod Books
 pub mod Unique
 pub mod Passing
-pub mod Reports
+pub mod Clashes
 pub mod Lowest
 pub mod Answers
 pub mod Some

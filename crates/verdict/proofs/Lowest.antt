@@ -6,17 +6,14 @@ use mathlib.Core.Bool.{Bool, true, false, not, true≢false}
 use mathlib.Core.List.{List}
 use native.Mathlib.Decide.{ℕ-discrete}
 use native.Mathlib.Omega.{arith}
-use borrow.Author.Tests.{eq-eqb, ne-eqb, not-true, not-false}
-use lib.Dec.{eqb}
-use Rattle.book.specs.declared.Node.{Node}
+use borrow.Author.Tests.{not-true, not-false}
 use Rattle.book.specs.Book.{Book}
 use Rattle.book.specs.Decode.{nodes}
 use Rattle.book.specs.Form.{nodesAt, bookOf}
 use Rattle.rules.specs.Facts.{marked?, IsMarked, AllMarked, Reached}
 use Rattle.rules.proofs.Spreading.{marked-is}
-use Rattle.verdict.specs.Conflicts.{GoodBook, NO-CONFLICT, ConflictAt, Conflicting, Clear, Found, LowestFound, LowestUnmarked, LowestUnused}
+use Rattle.verdict.specs.Conflicts.{GoodBook, Found, LowestFound, LowestUnmarked, LowestUnused}
 use Rattle.verdict.proofs.Books.{look-up}
-use Rattle.verdict.proofs.Unique.{reported-conflict}
 
 -- all numbers below one are passed
 pub record Passed (Not : ℕ → Type 0) (count n : ℕ) : Type 0 where
@@ -39,15 +36,6 @@ module _ {Of Not : ℕ → Type 0} {count n : ℕ} (before : Passed Not count n)
 
   pub passed-all : count ≤ n → LowestFound Of Not count n
   passed-all end = record { within = before .within; found = λ l. absurd (omega arith); passed = before .passed }
-
--- whether a node has a conflict, by the kind reported
-pub conflicting-is : {node : ℕ → Node} {n kind : ℕ} → ConflictAt node (node n) kind
-    → Found (Conflicting node) (Clear node) n (not (eqb kind NO-CONFLICT))
-conflicting-is {node} {n} {kind} told = go (ℕ-discrete kind NO-CONFLICT)
-  where
-    go : Dec (kind ≡ NO-CONFLICT) → Found (Conflicting node) (Clear node) n (not (eqb kind NO-CONFLICT))
-    go (yes e) = rw (eq-eqb _ _ e) (record { found = λ q. absurd (true≢false (sym q)); passed = λ q. told .none e })
-    go (no f) = rw (ne-eqb _ _ f) (record { found = λ q. reported-conflict (told .some f); passed = λ q. absurd (true≢false q) })
 
 -- whether a node is not marked, by its mark
 pub unmarked-is : {marks : List ℕ} {n : ℕ} {marked : Bool} → marked ≡ marked? marks n

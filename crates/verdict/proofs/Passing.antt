@@ -2,28 +2,28 @@
 use Prim.Native.Nat.{ℕ, _≤_}
 use native.Mathlib.Omega.{arith}
 use mathlib.Core.Path.{_≡_, refl, subst}
-use mathlib.Core.Logic.{_↔_, _⊎_, inl, inr}
+use mathlib.Core.Logic.{_↔_, _≢_, _⊎_, inl, inr}
 use mathlib.Core.List.{List}
 use Rattle.book.specs.Form.{DONE, formOf, bookOf}
 use Rattle.book.proofs.Laws.{form-listed}
 use Rattle.book.proofs.Decoded.{formed, well-formed}
+use Rattle.grammar.specs.Rules.{Conflict}
 use Rattle.grammar.specs.Passing.{AllReached, Fruitful, NoConflict, Passes}
 use Rattle.verdict.specs.declared.Verdict.{Verdict}
-use Rattle.verdict.specs.Judges.{UNUSED, CONFLICT, judgement, Judges, malformed, unused, barren, conflict, passes}
-use Rattle.verdict.proofs.Unique.{reported-conflict}
+use Rattle.verdict.specs.Judges.{UNUSED, CONFLICT, NoConflictBelow, Told, judgement, Judges, malformed, unused, barren, conflict, passes}
 
 -- what is so of a verdict that a book passes
 pub record Passed (bytes : List ℕ) (v : Verdict) : Type 0 where
   pub form : formOf bytes .number ≡ DONE
   pub by-rules : Passes (bookOf bytes)
-  pub verdict-is : v ≡ judgement DONE 0 0
+  pub verdict-is : v ≡ judgement DONE 0 0 0
 
 module _ {bytes : List ℕ} where
   pub passed : {v : Verdict} → Judges bytes v → v .number ≡ DONE → Passed bytes v
   passed (malformed bad) is = absurd (bad is)
   passed (unused _ _ _ _) is = absurd (omega arith)
   passed (barren _ _ _) is = absurd (omega arith)
-  passed (conflict _ _ _ _ _) is = absurd (omega arith)
+  passed (conflict _ _ _ _ _ _) is = absurd (omega arith)
   passed (passes good reached fruitful none) is =
       record {
         form = good;
@@ -37,7 +37,7 @@ module _ {bytes : List ℕ} where
       }
 
   -- the verdict that it passes
-  pub passed-judges : {v : Verdict} → Judges bytes v → v .number ≡ DONE → Judges bytes (judgement DONE 0 0)
+  pub passed-judges : {v : Verdict} → Judges bytes v → v .number ≡ DONE → Judges bytes (judgement DONE 0 0 0)
   passed-judges judges is = subst (Judges bytes) (passed judges is .verdict-is) judges
 
   -- a book of good form passes exactly when every node is reachable, its start can produce some run and no node has a conflict
@@ -50,7 +50,7 @@ module _ {bytes : List ℕ} where
       by (malformed bad) h = absurd (bad good)
       by (unused _ within _ not) h = absurd (not (h .0 _ within))
       by (barren _ _ bare) h = absurd (bare (h .1))
-      by (conflict _ _ _ _ shared) h = absurd (h .2 _ (reported-conflict shared))
+      by (conflict _ _ _ _ here _) h = absurd (h .2 _ here)
       by (passes _ _ _ _) h = refl
 
   -- every verdict's number is on the list: 0 to 6, and 22
@@ -58,5 +58,23 @@ module _ {bytes : List ℕ} where
   verdict-listed (malformed _) = inl (omega (arith, form-listed bytes))
   verdict-listed (unused _ _ _ _) = inr refl
   verdict-listed (barren _ _ _) = inl (omega arith)
-  verdict-listed (conflict _ _ _ _ _) = inl (omega arith)
+  verdict-listed (conflict _ _ _ _ _ _) = inl (omega arith)
   verdict-listed (passes _ _ _ _) = inl (omega arith)
+
+  -- CONFLICT tells of the lowest node that has one
+  pub conflict-tells : {v : Verdict} → Judges bytes v → v .number ≡ CONFLICT
+      → NoConflictBelow (bookOf bytes) (v .place) × Conflict (bookOf bytes .node) (bookOf bytes .node (v .place))
+      × Told (bookOf bytes .node) (bookOf bytes .node (v .place)) (v .both) (v .clash)
+  conflict-tells (malformed _) is = absurd (omega (arith, form-listed bytes, is))
+  conflict-tells (unused _ _ _ _) is = absurd (omega arith)
+  conflict-tells (barren _ _ _) is = absurd (omega arith)
+  conflict-tells (conflict _ _ _ least here told) is = (least, here, told)
+  conflict-tells (passes _ _ _ _) is = absurd (omega arith)
+
+  -- any other number tells of none
+  pub others-silent : {v : Verdict} → Judges bytes v → v .number ≢ CONFLICT → (v .both ≡ 0) × (v .clash ≡ 0)
+  others-silent (malformed _) other = (refl, refl)
+  others-silent (unused _ _ _ _) other = (refl, refl)
+  others-silent (barren _ _ _) other = (refl, refl)
+  others-silent (conflict _ _ _ _ _ _) other = absurd (other refl)
+  others-silent (passes _ _ _ _) other = (refl, refl)

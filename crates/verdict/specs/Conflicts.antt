@@ -1,13 +1,11 @@
--- What the functions that judge a book answer: the facts in a table, the lowest node that is not reachable, the kind
--- reported at a node, the lowest conflict.
+-- What the functions that judge a book answer: the facts in a table, the lowest node that is not reachable, what
+-- clashes at a node, the lowest conflict.
 use Prim.Native.Nat.{ℕ, _≤_, _<_}
 use mathlib.Core.Path.{_≡_}
-use mathlib.Core.Bool.{Bool, true, false, cond}
-use mathlib.Core.Logic.{_≢_}
+use mathlib.Core.Bool.{Bool, true, false}
 use mathlib.Core.List.{List}
-use lib.Dec.{eqb}
 use lib.ListN.{length}
-use Rattle.kinds.specs.Kinds.{inBoth, lowestKind}
+use Rattle.kinds.specs.Kinds.{inBoth}
 use Rattle.book.specs.declared.Node.{Node}
 use Rattle.book.specs.declared.Node.the-variants.{Fail, Empty, Token, Either, Then, Tagged, Ref}
 use Rattle.book.specs.Book.{Book}
@@ -15,8 +13,9 @@ use Rattle.book.specs.Form.{DONE, formOf, bookOf}
 use Rattle.grammar.specs.Rules.{Conflict, Reach}
 use Rattle.rules.specs.declared.NodeFacts.{NodeFacts}
 use Rattle.rules.specs.Facts.{tableSize, Facts, IsMarked}
+use Rattle.verdict.specs.declared.Clash.{Clash}
 use Rattle.verdict.specs.declared.Verdict.{Verdict}
-use Rattle.verdict.specs.Judges.{BOTH-NULLABLE, Reported, Judges}
+use Rattle.verdict.specs.Judges.{Judges}
 
 -- a book of good form with so many nodes
 pub record GoodBook (bytes : List ℕ) (count : ℕ) : Type 0 where
@@ -34,32 +33,18 @@ pub record Leaves (bytes : List ℕ) (verdict : Verdict) (table : List ℕ) : Ty
   pub judges : Judges bytes verdict
   pub known : verdict .number ≡ DONE → Known bytes (bookOf bytes .count) table
 
--- what is answered for a node without a conflict
-abbrev pub NO-CONFLICT : ℕ
-NO-CONFLICT = 64
-
--- what is answered at an either: that both sides are nullable, before the lowest kind shared
-pub record EitherReport (both shared answer : ℕ) : Type 0 where
-  pub nullable : both ≢ 0 → answer ≡ BOTH-NULLABLE
-  pub first : both ≡ 0 → answer ≡ lowestKind shared
-
--- what is reported at a node by the facts of its left and right
-unfoldable pub reportedOf : Node → NodeFacts → NodeFacts → ℕ
-reportedOf Fail left right = NO-CONFLICT
-reportedOf Empty left right = NO-CONFLICT
-reportedOf (Token k) left right = NO-CONFLICT
-reportedOf (Either l r) left right =
-    cond (eqb (inBoth (left .nullable) (right .nullable)) 0)
-    (lowestKind (inBoth (left .first) (right .first)))
-    BOTH-NULLABLE
-reportedOf (Then l r) left right = lowestKind (inBoth (left .snf) (right .first))
-reportedOf (Tagged l t) left right = NO-CONFLICT
-reportedOf (Ref l) left right = NO-CONFLICT
-
--- the kind reported at a node, or that it has no conflict
-pub record ConflictAt (node : ℕ → Node) (at : Node) (kind : ℕ) : Type 0 where
-  pub some : kind ≢ NO-CONFLICT → Reported node at kind
-  pub none : kind ≡ NO-CONFLICT → Conflict node at → ⊥
+-- what clashes at a node by the facts of its left and right
+unfoldable pub clashOf : Node → NodeFacts → NodeFacts → Clash
+clashOf Fail left right = record { both = 0; kinds = 0 }
+clashOf Empty left right = record { both = 0; kinds = 0 }
+clashOf (Token k) left right = record { both = 0; kinds = 0 }
+clashOf (Either l r) left right = record {
+  both = inBoth (inBoth (left .nullable) (right .nullable)) 1;
+  kinds = inBoth (left .first) (right .first);
+}
+clashOf (Then l r) left right = record { both = 0; kinds = inBoth (left .snf) (right .first) }
+clashOf (Tagged l t) left right = record { both = 0; kinds = 0 }
+clashOf (Ref l) left right = record { both = 0; kinds = 0 }
 
 -- whether something is found at a number, where not it is passed
 pub record Found (Of Not : ℕ → Type 0) (n : ℕ) (answer : Bool) : Type 0 where

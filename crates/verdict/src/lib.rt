@@ -6,8 +6,8 @@ ghost use Rattle.book.specs.Form.{DONE, countOf, formOf, bookOf};
 ghost use Rattle.grammar.specs.Passing.{AllReached};
 ghost use Rattle.rules.specs.Facts.{tableSize, marksSize};
 ghost use Rattle.rules.specs.Growth.{Blank};
-ghost use Rattle.verdict.specs.Judges.{judgement, Judges};
-ghost use Rattle.verdict.specs.Conflicts.{GoodBook, Known, Leaves, EitherReport, reportedOf, ConflictAt};
+ghost use Rattle.verdict.specs.Judges.{Told, judgement, Judges};
+ghost use Rattle.verdict.specs.Conflicts.{GoodBook, Known, Leaves, clashOf};
 ghost use Rattle.verdict.specs.Conflicts.{Found, LowestFound, Conflicting, Clear, LowestUnmarked, LowestUnused};
 use book::DONE;
 use book::NODES_AT;
@@ -23,69 +23,64 @@ pub const CONFLICT: u32 = 6;
 
 pub const UNUSED: u32 = 22;
 
-// What is answered for a node without a conflict.
-const NO_CONFLICT: usize = 64;
-
-// The kind that is reported where both sides of an either are nullable.
-pub const BOTH_NULLABLE: usize = 255;
-
-// What judging a book answers.
+// What judging a book answers; of a conflict the flag that both sides are nullable, and the set of the kinds that clash.
 pub struct Verdict {
     pub number: u32,
     pub place: u32,
-    pub kind: u32,
+    pub both: u32,
+    pub clash: u64,
 }
 
-// The verdict with a number, a place and a kind.
-fn verdict_of(number: u32, place: usize, kind: usize) -> Verdict
-    requires { ⌜ (place < 2 ^ 32) × (kind < 2 ^ 32) ⌝ }
-    ensures { λ r. ⌜ r ≡ judgement number place kind ⌝ }
+// What clashes at a node: 1 if both sides are nullable, else 0, and the kinds.
+struct Clash {
+    both: u64,
+    kinds: u64,
+}
+
+// The verdict with a number, a place, a flag and a set.
+fn verdict_of(number: u32, place: usize, both: u64, clash: u64) -> Verdict
+    requires { ⌜ (place < 2 ^ 32) × (both < 2 ^ 32) ⌝ }
+    ensures { λ r. ⌜ r ≡ judgement number place both clash ⌝ }
 {
     Verdict {
         number,
         place: place as u32,
-        kind: kind as u32,
+        both: both as u32,
+        clash,
     }
 }
 
-// What is reported at an either, where both sides are nullable before the lowest kind shared.
-fn either_report(both: u64, shared: u64) -> usize
-    ensures { λ r. ⌜ EitherReport both shared r ⌝ }
-{
-    if both == 0 {
-        kinds::lowest(shared)
-    } else {
-        BOTH_NULLABLE
-    }
-}
-
-// What is reported at a node by the facts of its left and right.
-fn reported(node: Node, left: NodeFacts, right: NodeFacts) -> usize
-    ensures { λ r. ⌜ r ≡ reportedOf node left right ⌝ }
+// What clashes at a node by the facts of its left and right.
+fn clash_of(node: Node, left: NodeFacts, right: NodeFacts) -> Clash
+    ensures { λ r. ⌜ r ≡ clashOf node left right ⌝ }
 {
     match node {
-        Node::Fail => NO_CONFLICT,
-        Node::Empty => NO_CONFLICT,
-        Node::Token(_) => NO_CONFLICT,
-        Node::Either(_, _) => {
-            either_report(left.nullable & right.nullable, left.first & right.first)
-        }
-        Node::Then(_, _) => kinds::lowest(left.snf & right.first),
-        Node::Tagged(_, _) => NO_CONFLICT,
-        Node::Ref(_) => NO_CONFLICT,
+        Node::Fail => Clash { both: 0, kinds: 0 },
+        Node::Empty => Clash { both: 0, kinds: 0 },
+        Node::Token(_) => Clash { both: 0, kinds: 0 },
+        Node::Either(_, _) => Clash {
+            both: left.nullable & right.nullable & 1,
+            kinds: left.first & right.first,
+        },
+        Node::Then(_, _) => Clash {
+            both: 0,
+            kinds: left.snf & right.first,
+        },
+        Node::Tagged(_, _) => Clash { both: 0, kinds: 0 },
+        Node::Ref(_) => Clash { both: 0, kinds: 0 },
     }
 }
 
-// The kind reported at a node, or that it has no conflict.
-fn conflict_at(book: &[u8], count: usize, n: usize, table: &[u64]) -> usize
+// What clashes at a node of a book.
+fn clash_at(book: &[u8], count: usize, n: usize, table: &[u64]) -> Clash
     requires { ⌜ Known (now book) count (now table) ⌝ }
     requires { ⌜ n < count ⌝ }
-    ensures { λ r. ⌜ ConflictAt (bookOf (now (book .entry)) .node) (bookOf (now (book .entry)) .node n) r ⌝ }
+    ensures { λ r. ⌜ Told (bookOf (now (book .entry)) .node) (bookOf (now (book .entry)) .node n) (r .both) (r .kinds) ⌝ }
 {
     let node = book::node_at(book, NODES_AT, n);
     let left = rules::facts_at(table, rules::left_from(n, node));
     let right = rules::facts_at(table, rules::right_from(n, node));
-    reported(node, left, right)
+    clash_of(node, left, right)
 }
 
 // Whether a node has a conflict.
@@ -94,7 +89,8 @@ fn conflicting(book: &[u8], count: usize, n: usize, table: &[u64]) -> bool
     requires { ⌜ n < count ⌝ }
     ensures { λ r. ⌜ Found (Conflicting (bookOf (now (book .entry)) .node)) (Clear (bookOf (now (book .entry)) .node)) n r ⌝ }
 {
-    conflict_at(book, count, n, table) != NO_CONFLICT
+    let clash = clash_at(book, count, n, table);
+    (clash.both | clash.kinds) != 0
 }
 
 // The lowest node that has a conflict, or the count where none has one.
@@ -121,14 +117,14 @@ fn judge_known(book: &[u8], count: usize, table: &[u64]) -> Verdict
     let start = u16_at(book, SETTINGS_AT + 2);
     let facts = rules::facts_at(table, start);
     if !kinds::has(facts.productive, 0) {
-        return verdict_of(BARREN, start, 0);
+        return verdict_of(BARREN, start, 0, 0);
     }
     let n = lowest_conflict(book, count, table);
     if n < count {
-        let kind = conflict_at(book, count, n, table);
-        return verdict_of(CONFLICT, n, kind);
+        let clash = clash_at(book, count, n, table);
+        return verdict_of(CONFLICT, n, clash.both, clash.kinds);
     }
-    verdict_of(DONE, 0, 0)
+    verdict_of(DONE, 0, 0, 0)
 }
 
 // The lowest node that is not marked, or the count where all are.
@@ -168,13 +164,13 @@ pub fn judge(book: &[u8], table: &mut [u64]) -> Verdict
 {
     let form = book::form(book);
     if form.number != DONE {
-        return verdict_of(form.number, form.place as usize, 0);
+        return verdict_of(form.number, form.place as usize, 0, 0);
     }
     let count = book::count_of(book.len());
     let mut marks = [0u64; rules::MARKS];
     let unused = lowest_unused(book, count, &mut marks);
     if unused < count {
-        return verdict_of(UNUSED, unused, 0);
+        return verdict_of(UNUSED, unused, 0, 0);
     }
     rules::least_facts(book, NODES_AT, count, table);
     judge_known(book, count, table)

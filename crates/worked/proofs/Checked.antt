@@ -5,6 +5,7 @@ use mathlib.Core.Path.{_≡_, refl, ap, subst}
 use mathlib.Core.List.{List, [], _∷_, map, flatMap}
 use lib.ListN.{getD, drop}
 use Rattle.words.specs.Words.{u16At, wordBytes}
+use Rattle.kinds.specs.Kinds.{setOf}
 use Rattle.book.specs.Decode.{nodeAt, nodes, nodeGood, firstBad}
 use Rattle.book.specs.Form.{formOf, bookOf}
 use Rattle.rules.proofs.Least.{filled, kept-or, differ, turned, settled, settle, decided}
@@ -18,7 +19,7 @@ use Rattle.plan.specs.Form.{planCount, planKinds, planStart, cellAt, planFrom, 
 use Rattle.running.specs.Running.{moveOf, noted, visit, takeOff, walk, event, logged, onward, finish, reads, reading, rowFirst, expected}
 use Rattle.compiler.specs.declared.Compiled.{Compiled}
 use Rattle.compiler.specs.Compiles.{answer, Compiles}
-use Rattle.verdict.proofs.Some.{decide, decide-both, either-way, other-way, search, null?, first?, shared?, reported?, unreached?}
+use Rattle.verdict.proofs.Some.{decide, other-way, search, flag, shared, tells, conflict?, unreached?}
 use Rattle.verdict.proofs.Some.{judged-fruitful, judged-start, judged-good, judged-form, judges-some}
 use Rattle.compiler.proofs.Some.{marks, by-verdict, compiles-some}
 use Rattle.reader.specs.Numbers.{answered}
@@ -27,7 +28,7 @@ use Rattle.worked.specs.Worked.{book, Case, compiled, read, Each, no-mor
 
 -- the numbers of an answer, and those of the buffer after them
 abbrev compiledNumbers : Compiled → List ℕ → List ℕ
-compiledNumbers a plan = a .number ∷ a .place ∷ a .kind ∷ a .size ∷ plan
+compiledNumbers a plan = a .number ∷ a .place ∷ a .size ∷ a .both ∷ a .clash ∷ plan
 
 abbrev readNumbers : Outcome → List ℕ
 readNumbers o = o .reading .number ∷ o .reading .place ∷ o .reading .records ∷ o .reading .expected ∷ o .tree
@@ -45,7 +46,7 @@ said (read bytes run slots room a buffer) = readNumbers (outcome a buffer)
 holds : (c : Case) → computed c ≡ said c → Holds c
 unfolding computed said
 holds (compiled bytes room a buffer) e =
-    subst (λ (l : List ℕ). Compiles bytes room (answer (getD l 0 0) (getD l 1 0) (getD l 2 0) (getD l 3 0)) (drop 4 l)) e
+    subst (λ (l : List ℕ). Compiles bytes room (answer (getD l 0 0) (getD l 1 0) (getD l 2 0) (getD l 3 0) (getD l 4 0)) (drop 5 l)) e
     (compiles-some bytes room .2)
 holds (read bytes run slots room a buffer) e =
     ap (λ (l : List ℕ). outcome (answered (getD l 0 0) (getD l 1 0) (getD l 2 0) (getD l 3 0)) (drop 4 l)) e
@@ -60,7 +61,7 @@ unfolding table book wordBytes flatMap computed said by-verdict compiles-some
     u16At bookOf nodeAt nodes nodeGood firstBad formOf ℕ-discrete decLt
     filled kept-or differ turned settled settle decided ruled given facts-decided fact-decided productive-decided nullable-decided
     first-decided snf-decided child? any reached? reach-decided
-    decide decide-both either-way other-way search null? first? shared? reported? unreached?
+    decide other-way search setOf flag shared tells conflict? unreached?
     judged-fruitful judged-start judged-good judged-form judges-some marks
     planBytes planContents bookBody valuesFrom listsFrom Bytes.rowOf Bytes.rowsOf cellOf
     planCount planKinds planStart cellAt planFrom planGood cellGood cellsJudged planJudged

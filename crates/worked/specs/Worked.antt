@@ -58,7 +58,7 @@ table =
     ∷ 2 ∷ 0 ∷ 0 ∷ 0 ∷ 0 ∷ 0 ∷ 3 ∷ 0 ∷ 2 ∷ 0 ∷ 3 ∷ 0 ∷ 2 ∷ 0 ∷ 0 ∷ 0 ∷ 0 ∷ 0 ∷ 1 ∷ 0 ∷ 5 ∷ 0 ∷ [] in
     let wide : List ℕ = 3 ∷ 0 ∷ 1 ∷ 0 ∷ 20 ∷ 0 ∷ 4 ∷ 0 ∷ 2 ∷ 0 ∷ 24 ∷ 0 ∷ 12 ∷ 0 ∷ 3 ∷ 0 ∷ 36 ∷ 0 ∷ 130 ∷ 0 ∷ 64 ∷ 0
     ∷ 1 ∷ 0 ∷ 2 ∷ 0 ∷ 63 ∷ 0 ∷ 0 ∷ 0 ∷ 5 ∷ 0 ∷ 0 ∷ 0 ∷ 255 ∷ 255 ∷ zeros 63 ++ 1 ∷ 0 ∷ zeros 63 ++ 2 ∷ 0 ∷ [] in
-    compiled rinse 114 (answer 0 0 0 114) plan ∷ compiled rinse 113 (answer 7 0 0 114) (zeros 113)
+    compiled rinse 114 (answer 0 0 114 0 0) plan ∷ compiled rinse 113 (answer 7 0 114 0 0) (zeros 113)
     ∷ read plan (0 ∷ 1 ∷ 2 ∷ []) 2 8 (answered 0 3 8 0) (8 ∷ 0 ∷ 7 ∷ 6 ∷ 5 ∷ 1 ∷ 32772 ∷ 2 ∷ [])
     ∷ read plan (0 ∷ 1 ∷ 2 ∷ []) 1 8 (answered 11 1 0 0) (zeros 8) ∷ read plan [] 0 0 (answered 11 0 0 0) []
     ∷ read plan (0 ∷ 1 ∷ 2 ∷ []) 2 7 (answered 16 0 8 0) (zeros 7)
@@ -66,27 +66,32 @@ table =
     ∷ read plan (0 ∷ 0 ∷ []) 2 8 (answered 13 1 0 6) (zeros 8)
     ∷ read plan [] 2 0 (answered 14 0 0 1) [] ∷ read plan (0 ∷ 1 ∷ 1 ∷ []) 2 0 (answered 14 3 0 2) []
     ∷ read plan (0 ∷ 2 ∷ 1 ∷ []) 2 0 (answered 13 2 0 0) [] ∷ read plan (0 ∷ 3 ∷ []) 2 0 (answered 12 1 0 6) []
-    ∷ compiled (book 1 2 (Token 0 ∷ Token 0 ∷ Either 0 1 ∷ [])) 2 (answer 6 2 0 0) (0 ∷ 0 ∷ [])
-    ∷ compiled (book 1 2 (Empty ∷ Empty ∷ Either 0 1 ∷ [])) 2 (answer 6 2 255 0) (0 ∷ 0 ∷ [])
-    ∷ compiled (book 1 3 (Token 0 ∷ Empty ∷ Either 0 1 ∷ Then 2 0 ∷ [])) 2 (answer 6 3 0 0) (0 ∷ 0 ∷ [])
-    ∷ compiled (book 2 4 (Ref 4 ∷ Token 0 ∷ Then 0 1 ∷ Token 1 ∷ Either 2 3 ∷ [])) 2 (answer 6 4 1 0) (0 ∷ 0 ∷ [])
-    ∷ compiled (book 1 4 (Ref 4 ∷ Fail ∷ Then 0 1 ∷ Token 0 ∷ Either 2 3 ∷ [])) 64 (answer 0 0 0 64) loop
-    ∷ read loop (0 ∷ []) 1 2 (answered 0 1 2 0) (4 ∷ 3 ∷ []) ∷ compiled (book 1 0 (Fail ∷ [])) 0 (answer 5 0 0 0) []
-    ∷ compiled (book 1 1 (Fail ∷ Then 0 0 ∷ [])) 2 (answer 5 1 0 0) (0 ∷ 0 ∷ [])
-    ∷ compiled (book 1 1 (Fail ∷ Fail ∷ Token 0 ∷ [])) 2 (answer 22 0 0 0) (0 ∷ 0 ∷ [])
-    ∷ compiled (book 1 2 (Token 0 ∷ Token 0 ∷ Either 0 1 ∷ Fail ∷ [])) 0 (answer 22 3 0 0) []
-    ∷ compiled (book 1 0 (Ref 2 ∷ Token 0 ∷ Tagged 1 9 ∷ [])) 0 (answer 7 0 0 48) []
-    ∷ compiled (book 1 0 (Empty ∷ [])) 33 (answer 0 0 0 32) (lone ++ (0 ∷ []))
+    ∷ compiled (book 1 2 (Token 0 ∷ Token 0 ∷ Either 0 1 ∷ [])) 2 (answer 6 2 0 0 1) (0 ∷ 0 ∷ [])
+    ∷ compiled (book 1 2 (Empty ∷ Empty ∷ Either 0 1 ∷ [])) 2 (answer 6 2 0 1 0) (0 ∷ 0 ∷ [])
+    ∷ compiled (book 1 3 (Token 0 ∷ Empty ∷ Either 0 1 ∷ Then 2 0 ∷ [])) 2 (answer 6 3 0 0 1) (0 ∷ 0 ∷ [])
+    ∷ compiled (book 2 4 (Ref 4 ∷ Token 0 ∷ Then 0 1 ∷ Token 1 ∷ Either 2 3 ∷ [])) 2 (answer 6 4 0 0 2) (0 ∷ 0 ∷ [])
+    ∷ compiled (book 2 3 (Token 0 ∷ Token 1 ∷ Either 0 1 ∷ Either 2 2 ∷ [])) 0 (answer 6 3 0 0 3) []
+    ∷ compiled (book 1 3 (Empty ∷ Token 0 ∷ Either 0 1 ∷ Either 2 2 ∷ [])) 0 (answer 6 3 0 1 1) []
+    ∷ compiled (book 3 5 (Token 0 ∷ Token 2 ∷ Either 0 1 ∷ Empty ∷ Either 2 3 ∷ Then 4 2 ∷ [])) 0 (answer 6 5 0 0 5) []
+    ∷ compiled (book 64 1 (Token 63 ∷ Either 0 0 ∷ [])) 0 (answer 6 1 0 0 9223372036854775808) []
+    ∷ compiled (book 1 4 (Ref 4 ∷ Fail ∷ Then 0 1 ∷ Token 0 ∷ Either 2 3 ∷ [])) 64 (answer 0 0 64 0 0) loop
+    ∷ read loop (0 ∷ []) 1 2 (answered 0 1 2 0) (4 ∷ 3 ∷ []) ∷ compiled (book 1 0 (Fail ∷ [])) 0 (answer 5 0 0 0 0) []
+    ∷ compiled (book 1 1 (Fail ∷ Then 0 0 ∷ [])) 2 (answer 5 1 0 0 0) (0 ∷ 0 ∷ [])
+    ∷ compiled (book 1 1 (Fail ∷ Fail ∷ Token 0 ∷ [])) 2 (answer 22 0 0 0 0) (0 ∷ 0 ∷ [])
+    ∷ compiled (book 1 2 (Token 0 ∷ Token 0 ∷ Either 0 1 ∷ Fail ∷ [])) 0 (answer 22 3 0 0 0) []
+    ∷ compiled (book 1 0 (Ref 2 ∷ Token 0 ∷ Tagged 1 9 ∷ [])) 0 (answer 7 0 48 0 0) []
+    ∷ compiled (book 1 0 (Empty ∷ [])) 33 (answer 0 0 32 0 0) (lone ++ (0 ∷ []))
     ∷ read lone [] 1 1 (answered 0 0 1 0) (32768 ∷ []) ∷ read lone (0 ∷ []) 1 1 (answered 13 0 0 0) (0 ∷ [])
-    ∷ compiled (book 1 0 (Token 0 ∷ Token 0 ∷ Either 0 1 ∷ [])) 2 (answer 22 1 0 0) (0 ∷ 0 ∷ [])
-    ∷ compiled (book 2 5 (Token 0 ∷ Empty ∷ Either 0 1 ∷ Token 1 ∷ Then 2 3 ∷ Then 4 0 ∷ [])) 0 (answer 7 0 0 78) []
-    ∷ compiled (book 64 1 (Token 63 ∷ Tagged 0 65535 ∷ [])) 166 (answer 0 0 0 166) wide
+    ∷ compiled (book 1 0 (Token 0 ∷ Token 0 ∷ Either 0 1 ∷ [])) 2 (answer 22 1 0 0 0) (0 ∷ 0 ∷ [])
+    ∷ compiled (book 2 5 (Token 0 ∷ Empty ∷ Either 0 1 ∷ Token 1 ∷ Then 2 3 ∷ Then 4 0 ∷ [])) 0 (answer 7 0 78 0 0) []
+    ∷ compiled (book 64 1 (Token 63 ∷ Tagged 0 65535 ∷ [])) 166 (answer 0 0 166 0 0) wide
     ∷ read wide (63 ∷ []) 1 2 (answered 0 1 2 0) (1 ∷ 0 ∷ [])
     ∷ read wide (64 ∷ []) 1 0 (answered 12 0 0 9223372036854775808) []
-    ∷ compiled (zeros 18) 0 (answer 1 0 0 0) [] ∷ compiled (zeros 24) 0 (answer 2 0 0 0) []
-    ∷ compiled (zeros 3090) 0 (answer 2 0 0 0) [] ∷ compiled (zeros 3096) 0 (answer 1 0 0 0) []
-    ∷ compiled (book 65 0 (Fail ∷ [])) 0 (answer 3 0 0 0) [] ∷ compiled (book 64 1 (Fail ∷ [])) 0 (answer 3 0 0 0) []
-    ∷ compiled (book 64 511 (Token 63 ∷ Token 64 ∷ replicate 510 Fail)) 0 (answer 4 1 0 0) []
+    ∷ compiled (zeros 18) 0 (answer 1 0 0 0 0) [] ∷ compiled (zeros 24) 0 (answer 2 0 0 0 0) []
+    ∷ compiled (zeros 3090) 0 (answer 2 0 0 0 0) [] ∷ compiled (zeros 3096) 0 (answer 1 0 0 0 0) []
+    ∷ compiled (book 65 0 (Fail ∷ [])) 0 (answer 3 0 0 0 0) []
+    ∷ compiled (book 64 1 (Fail ∷ [])) 0 (answer 3 0 0 0 0) []
+    ∷ compiled (book 64 511 (Token 63 ∷ Token 64 ∷ replicate 510 Fail)) 0 (answer 4 1 0 0 0) []
     ∷ read (take 113 plan) [] 2 0 (answered 8 0 0 0) [] ∷ read (set plan 2 2) [] 2 0 (answered 8 0 0 0) []
     ∷ read (set plan 111 2) [] 2 0 (answered 9 33 0 0) [] ∷ read (set plan 113 2) [] 2 0 (answered 9 35 0 0) []
     ∷ read plan (zeros 65535) 2 0 (answered 13 1 0 6) [] ∷ read plan (zeros 65536) 0 0 (answered 10 0 0 0) []

@@ -93,6 +93,35 @@ pub fn not_after() -> Book {
     Book::ending(1, &nodes)
 }
 
+/// Two sides that begin with the same two kinds.
+pub fn shared_kinds() -> Book {
+    Book::ending(
+        2,
+        &[(TOKEN, 0, 0), (TOKEN, 1, 0), (EITHER, 0, 1), (EITHER, 2, 2)],
+    )
+}
+
+/// Two sides that can take nothing and begin with the same kind.
+pub fn both_ways() -> Book {
+    Book::ending(
+        1,
+        &[(EMPTY, 0, 0), (TOKEN, 0, 0), (EITHER, 0, 1), (EITHER, 2, 2)],
+    )
+}
+
+/// Either of two tokens that may be left out, and either of them after it.
+pub fn not_after_kinds() -> Book {
+    let nodes = [
+        (TOKEN, 0, 0),
+        (TOKEN, 2, 0),
+        (EITHER, 0, 1),
+        (EMPTY, 0, 0),
+        (EITHER, 2, 3),
+        (THEN, 4, 2),
+    ];
+    Book::ending(3, &nodes)
+}
+
 /// Left recursion that conflicts.
 pub fn left_recursion() -> Book {
     let nodes = [

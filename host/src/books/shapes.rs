@@ -18,10 +18,11 @@ struct Maker<'a> {
 /// A random well-formed book of any shape, mostly of few nodes.
 pub fn any_book(random: &mut Random) -> Book {
     let kinds = random.within(1, 6) as u16;
-    match random.below(8) {
+    match random.below(9) {
         0 | 1 => soup(random, kinds),
         2..=4 => regular(random, kinds, 3),
         5 | 6 => rules(random, kinds, 3),
+        7 => clash(random, kinds),
         _ => chain(random, kinds, 12),
     }
 }
@@ -111,6 +112,15 @@ fn regular(random: &mut Random, kinds: u16, depth: usize) -> Book {
     maker.unused();
     let all: Vec<u16> = (0..kinds).collect();
     let start = maker.part(&all, depth);
+    maker.finish(usize::from(start))
+}
+
+/// A book of two choices between events, which may share some, beside or after each other.
+fn clash(random: &mut Random, kinds: u16) -> Book {
+    let mut maker = maker(random, kinds);
+    let (one, other) = (maker.choice(), maker.choice());
+    let form = maker.random.pick(&[EITHER, THEN]);
+    let start = maker.add(form, one, other);
     maker.finish(usize::from(start))
 }
 
@@ -285,6 +295,23 @@ impl Maker<'_> {
                 self.add(TOKEN, kind, 0)
             }
         }
+    }
+
+    /// Adds a choice between events of some kinds, now and then also nothing.
+    fn choice(&mut self) -> u16 {
+        let first = self.kind();
+        let mut choice = self.add(TOKEN, first, 0);
+        for kind in 0..self.kinds {
+            if kind != first && self.random.once_in(2) {
+                let token = self.add(TOKEN, kind, 0);
+                choice = self.either(Some(choice), token);
+            }
+        }
+        if self.random.once_in(3) {
+            let empty = self.add(EMPTY, 0, 0);
+            choice = self.either(Some(choice), empty);
+        }
+        choice
     }
 
     /// Adds a part or nothing, either side first.

@@ -15,7 +15,7 @@ use crate::ffi;
 pub static COMPILE: Call = Call {
     name: "compile",
     takes: &[&BOOK, &PLAN_BUFFER],
-    fields: &["number", "place", "kind", "size"],
+    fields: &["number", "place", "size", "both", "clash"],
     answers: &[
         (DONE, 7_000),
         (LENGTH, 10_000),
@@ -61,10 +61,11 @@ fn fields(compiled: Compiled) -> Vec<u64> {
     let Compiled {
         number,
         place,
-        kind,
         size,
+        both,
+        clash,
     } = compiled;
-    [number, place, kind, size].map(u64::from).to_vec()
+    vec![number.into(), place.into(), size.into(), both.into(), clash]
 }
 
 /// A book of any sort, and room about the plan's size.

@@ -1,35 +1,50 @@
--- `listed::put_compiled` meets its contract.
+-- `listed::put_compiled` meets its contract: the line of a conflict, or that of another refusal.
 use borrow.Author.Needs.{needs}
-use Rattle.listed.specs.Listing.{compiledLine}
+use Rattle.listed.proofs.Answers.{put-if-conflict, put-if-other}
 use Rattle.listed.proofs.put_compiled.Statement.{statement}
 use Rattle.listed.proofs.put_compiled.Tie as tie
 
-cast-put-refused : tie.Need-cast-put-refused
-cast-put-refused c = search needs
+cast-number : tie.Need-cast-number
+cast-number c = search needs
 
-cast-put-refused-2 : tie.Need-cast-put-refused-2
-cast-put-refused-2 c = search needs
+cast-place : tie.Need-cast-place
+cast-place c = search needs
 
-cast-put-refused-3 : tie.Need-cast-put-refused-3
-cast-put-refused-3 c = search needs
+cast-put-conflict : tie.Need-cast-put-conflict
+cast-put-conflict c = search needs
 
-put-refused-requires : tie.Need-put-refused-requires
-put-refused-requires c κs = search needs
+put-conflict-requires : tie.Need-put-conflict-requires
+put-conflict-requires c κs = search needs
 
 same-length : tie.Need-same-length
 same-length c = search needs
 
 returns : tie.Need-returns
-unfolding compiledLine
-returns c = c .before .before .put-refused .ensures
+returns c =
+    let put = c .before .before in
+    put-if-conflict _ (put .before .before .before .if1 .taken) (put .put-conflict .ensures)
+
+put-refused-requires : tie.Need-put-refused-requires
+put-refused-requires c κs = search needs
+
+same-length-2 : tie.Need-same-length-2
+same-length-2 c = search needs
+
+returns-2 : tie.Need-returns-2
+returns-2 c =
+    let put = c .before .before in
+    put-if-other _ (put .before .before .if1 .left) (put .put-refused .ensures)
 
 pub put-compiled-spec : {M : Type 1} → statement M
 put-compiled-spec =
     tie.close
     (tie.spec
-    cast-put-refused
-    cast-put-refused-2
-    cast-put-refused-3
-    put-refused-requires
+    cast-number
+    cast-place
+    cast-put-conflict
+    put-conflict-requires
     same-length
-    returns)
+    returns
+    put-refused-requires
+    same-length-2
+    returns-2)

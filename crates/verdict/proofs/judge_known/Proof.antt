@@ -10,7 +10,7 @@ use Rattle.rules.specs.declared.NodeFacts.{NodeFacts}
 use Rattle.rules.specs.Facts.{factsAt}
 use Rattle.book.specs.Form.{bookOf}
 use Rattle.verdict.proofs.Books.{book-start, book-long, count-small, start-below}
-use Rattle.verdict.proofs.Answers.{answered-barren, kind-small, answered-conflict, answered-passes}
+use Rattle.verdict.proofs.Answers.{answered-barren, answered-conflict, answered-passes}
 use Rattle.verdict.proofs.judge_known.Statement.{statement}
 use Rattle.verdict.proofs.judge_known.Tie as tie
 
@@ -51,16 +51,15 @@ returns c =
 lowest-conflict-requires : tie.Need-lowest-conflict-requires
 lowest-conflict-requires c κs = search needs
 
-conflict-at-requires : tie.Need-conflict-at-requires
-conflict-at-requires c κs = search needs
+clash-at-requires : tie.Need-clash-at-requires
+clash-at-requires c κs = search needs
 
 verdict-of-requires-2 : tie.Need-verdict-of-requires-2
 verdict-of-requires-2 c κs =
     let found = c .before .before in
     let read = found .before .before .before .before in
     let known = read .before .before .before .pre .0 in
-    let kind = kind-small known (start-is read) (found .lowest-conflict .ensures) (c .before .if2 .taken) (c .conflict-at .ensures) in
-    omega (arith, c .before .if2 .taken, count-small (known .good), kind)
+    omega (arith, c .before .if2 .taken, count-small (known .good), c .clash-at .ensures .flag)
 
 returns-2 : tie.Need-returns-2
 returns-2 c =
@@ -71,7 +70,7 @@ returns-2 c =
     let entry = read .before .before .before in
     rw (c .verdict-of2 .ensures)
     (answered-conflict (entry .pre .0) (start-is read) (found .lowest-conflict .ensures) (told .before .if2 .taken)
-    (told .conflict-at .ensures)
+    (told .clash-at .ensures)
     (entry .pre .1)
     (test-is (tested .before) ∙ not-false _ (tested .if1 .left)))
 
@@ -100,7 +99,7 @@ judge-known-spec =
     verdict-of-requires
     returns
     lowest-conflict-requires
-    conflict-at-requires
+    clash-at-requires
     verdict-of-requires-2
     returns-2
     verdict-of-requires-3

@@ -1,10 +1,10 @@
--- `verdict::conflict_at` meets its contract: the node is read, and the table has the facts of its left and right.
+-- `verdict::clash_at` meets its contract: the node is read, and the table has the facts of its left and right.
 use native.Mathlib.Omega.{arith}
 use borrow.Author.Needs.{needs}
 use Rattle.verdict.proofs.Books.{nodes-good}
-use Rattle.verdict.proofs.Reports.{left-in, right-in, conflict-read}
-use Rattle.verdict.proofs.conflict_at.Statement.{statement}
-use Rattle.verdict.proofs.conflict_at.Tie as tie
+use Rattle.verdict.proofs.Clashes.{left-in, right-in, told-read}
+use Rattle.verdict.proofs.clash_at.Statement.{statement}
+use Rattle.verdict.proofs.clash_at.Tie as tie
 
 node-at-requires : tie.Need-node-at-requires
 node-at-requires c κs =
@@ -30,23 +30,23 @@ facts-at-requires-2 c κs =
     let known = entry .pre .0 in
     omega (arith, c .right-from .ensures, right-in known (entry .pre .1) (read .node-at .ensures), known .long)
 
-reported-requires : tie.Need-reported-requires
-reported-requires c κs = search needs
+clash-of-requires : tie.Need-clash-of-requires
+clash-of-requires c κs = search needs
 
 returns : tie.Need-returns
 returns c =
     let left = c .before .before .before in
     let read = left .before .before in
     let entry = read .before .before .before in
-    conflict-read (entry .pre .0) (entry .pre .1) (read .node-at .ensures) (λ i. read .before .shared-slice-known2 .given i .fits)
+    told-read (entry .pre .0) (entry .pre .1) (read .node-at .ensures) (λ i. read .before .shared-slice-known2 .given i .fits)
     (left .before .left-from .ensures)
     (left .facts-at .ensures)
     (c .before .before .right-from .ensures)
     (c .before .facts-at2 .ensures)
-    (c .reported .ensures)
+    (c .clash-of .ensures)
 
-pub conflict-at-spec : {M : Type 1} → statement M
-conflict-at-spec =
+pub clash-at-spec : {M : Type 1} → statement M
+clash-at-spec =
     tie.close
     (tie.spec
     node-at-requires
@@ -54,5 +54,5 @@ conflict-at-spec =
     facts-at-requires
     right-from-requires
     facts-at-requires-2
-    reported-requires
+    clash-of-requires
     returns)

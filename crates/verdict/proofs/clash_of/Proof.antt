@@ -1,10 +1,9 @@
--- `verdict::reported` meets its contract: an arm for each type of the table.
+-- `verdict::clash_of` meets its contract: an arm for each type of the table.
 use mathlib.Core.Path.{refl}
 use borrow.Author.Needs.{needs}
-use Rattle.verdict.specs.Conflicts.{reportedOf}
-use Rattle.verdict.proofs.Reports.{either-answer}
-use Rattle.verdict.proofs.reported.Statement.{statement}
-use Rattle.verdict.proofs.reported.Tie as tie
+use Rattle.verdict.specs.Conflicts.{clashOf}
+use Rattle.verdict.proofs.clash_of.Statement.{statement}
+use Rattle.verdict.proofs.clash_of.Tie as tie
 
 enum-told : tie.Need-enum-told
 enum-told c = search needs
@@ -18,14 +17,8 @@ enum-told-3 c = search needs
 enum-told-4 : tie.Need-enum-told-4
 enum-told-4 c = search needs
 
-either-report-requires : tie.Need-either-report-requires
-either-report-requires c κs = search needs
-
 enum-told-5 : tie.Need-enum-told-5
 enum-told-5 c = search needs
-
-lowest-requires : tie.Need-lowest-requires
-lowest-requires c κs = search needs
 
 enum-told-6 : tie.Need-enum-told-6
 enum-told-6 c = search needs
@@ -34,44 +27,42 @@ enum-told-7 : tie.Need-enum-told-7
 enum-told-7 c = search needs
 
 returns : tie.Need-returns
-unfolding reportedOf
+unfolding clashOf
 returns c = rw (c .enum-told .given .1) refl
 
 returns-2 : tie.Need-returns-2
-unfolding reportedOf
+unfolding clashOf
 returns-2 c = rw (c .enum-told2 .given .1) refl
 
 returns-3 : tie.Need-returns-3
-unfolding reportedOf
+unfolding clashOf
 returns-3 c = rw (c .enum-told3 .given .1) refl
 
 returns-4 : tie.Need-returns-4
-unfolding reportedOf
-returns-4 c = rw (c .before .before .before .before .before .enum-told4 .given .1) (either-answer (c .either-report .ensures))
+unfolding clashOf
+returns-4 c = rw (c .before .before .before .before .enum-told4 .given .1) refl
 
 returns-5 : tie.Need-returns-5
-unfolding reportedOf
-returns-5 c = rw (c .before .before .before .enum-told5 .given .1) (c .lowest .ensures)
+unfolding clashOf
+returns-5 c = rw (c .before .before .enum-told5 .given .1) refl
 
 returns-6 : tie.Need-returns-6
-unfolding reportedOf
+unfolding clashOf
 returns-6 c = rw (c .enum-told6 .given .1) refl
 
 returns-7 : tie.Need-returns-7
-unfolding reportedOf
+unfolding clashOf
 returns-7 c = rw (c .enum-told7 .given .1) refl
 
-pub reported-spec : {M : Type 1} → statement M
-reported-spec =
+pub clash-of-spec : {M : Type 1} → statement M
+clash-of-spec =
     tie.close
     (tie.spec
     enum-told
     enum-told-2
     enum-told-3
     enum-told-4
-    either-report-requires
     enum-told-5
-    lowest-requires
     enum-told-6
     enum-told-7
     returns
