@@ -357,12 +357,13 @@ static size_t improper_cell(const book *b, const uint8_t *cells)
     return b->count * width;
 }
 
-/* A reading under way. */
+/* A reading under way; in a walk the slots of parts taken off are written over. */
 typedef struct {
     book b;
     const uint8_t *cells;
     uint16_t *held, *tree;
     size_t held_len, tree_len, held_count, records;
+    bool walked;
 } reader;
 
 /* A node's row. */
@@ -415,8 +416,10 @@ static uint32_t event(reader *r, size_t kind)
 {
     while (r->held_count > 0) {
         size_t n = r->held[--r->held_count];
-        if (row(r, n)[kind] != REFUSE)
+        if (row(r, n)[kind] != REFUSE) {
+            r->walked = true;
             return walk(r, n, kind);
+        }
         if (row(r, n)[r->b.kinds] == 0)
             return UNEXPECTED;
         record(r, n + EMPTY_RECORD);
@@ -436,32 +439,60 @@ static uint32_t finish(reader *r)
     return DONE;
 }
 
-/* The FIRST set of the part held last, as its row has it. */
-static uint64_t expected(const reader *r, const uint16_t *held, size_t count)
+/* The kinds that may come next: FIRST, by its row, of the part held last, and while parts are nullable, of the next. */
+static uint64_t expected(const reader *r, size_t count)
 {
     uint64_t set = 0;
-    if (count > 0)
+    while (count > 0) {
+        const uint8_t *cells = row(r, r->held[--count]);
         for (size_t kind = 0; kind < r->b.kinds; kind++)
-            if (row(r, held[count - 1])[kind] != 0)
+            if (cells[kind] != 0)
                 set |= (uint64_t)1 << kind;
+        if (cells[r->b.kinds] == 0)
+            break;
+    }
     return set;
+}
+
+/* Runs the plan over the events, up to one that is refused: its number, with its place and the parts held before it. */
+static uint32_t pass_events(reader *r, const uint8_t *run, size_t run_len, size_t *place, size_t *count)
+{
+    r->held[0] = (uint16_t)r->b.start;
+    r->held_count = 1;
+    for (size_t i = 0; i < run_len; i++) {
+        *place = i;
+        *count = r->held_count;
+        r->walked = false;
+        uint32_t number = run[i] >= r->b.kinds ? UNKNOWN : event(r, run[i]);
+        if (number != DONE)
+            return number;
+    }
+    *place = run_len;
+    *count = r->held_count;
+    return DONE;
+}
+
+/* A refusal of an event; what was expected is told by the parts held before it, for which the events are read again. */
+static reference_reading refuse(reader *r, uint32_t number, const uint8_t *run, size_t place, size_t count)
+{
+    if (number != UNKNOWN && number != UNEXPECTED)
+        return (reference_reading){number, (uint32_t)place, 0, 0};
+    if (r->walked) {
+        r->tree_len = 0;
+        pass_events(r, run, place, &place, &count);
+    }
+    return (reference_reading){number, (uint32_t)place, 0, expected(r, count)};
 }
 
 /* Runs the plan over the events and their end. */
 static reference_reading run_plan(reader *r, const uint8_t *run, size_t run_len)
 {
-    r->held[0] = (uint16_t)r->b.start;
-    r->held_count = 1;
-    for (size_t i = 0; i <= run_len; i++) {
-        size_t count = r->held_count;
-        uint16_t last = count > 0 ? r->held[count - 1] : 0;
-        uint32_t number = i == run_len ? finish(r)
-            : run[i] >= r->b.kinds ? UNKNOWN : event(r, run[i]);
-        if (number == UNKNOWN || number == UNEXPECTED || number == END)
-            return (reference_reading){number, (uint32_t)i, 0, expected(r, &last, count > 0)};
-        if (number != DONE)
-            return (reference_reading){number, (uint32_t)i, 0, 0};
-    }
+    size_t place, count;
+    uint32_t number = pass_events(r, run, run_len, &place, &count);
+    if (number != DONE)
+        return refuse(r, number, run, place, count);
+    if (finish(r) != DONE)
+        return (reference_reading){END, (uint32_t)run_len, 0, expected(r, count)};
     if (r->records > r->tree_len)
         return (reference_reading){NO_ROOM, 0, (uint32_t)r->records, 0};
     return (reference_reading){DONE, (uint32_t)run_len, (uint32_t)r->records, 0};

@@ -26,12 +26,16 @@ static void print_tree(const uint16_t *tree, uint32_t records)
                tree[i] >= DRUMBOOK_EMPTY_RECORD ? ", empty" : "");
 }
 
-/* Prints the kinds of a set. */
+/* Prints the kinds of a set in words. */
 static void print_kinds(uint64_t set)
 {
-    for (unsigned kind = 0; kind < 64; kind++)
-        if (set >> kind & 1)
-            printf(" %u", kind);
+    static const char *const kinds[] = {"fill", "rinse", "tip"};
+    const char *between = "";
+    for (unsigned kind = 0; kind < sizeof kinds / sizeof *kinds; kind++)
+        if (set >> kind & 1) {
+            printf("%s%s", between, kinds[kind]);
+            between = " or ";
+        }
 }
 
 /* Prints a refusal: in words, where, and what the answer tells besides. */
@@ -52,7 +56,7 @@ static void print_refusal(const drumbook_reading *reading)
         break;
     }
     if (reading->expected != 0) {
-        printf("; expected:");
+        printf("; expected: ");
         print_kinds(reading->expected);
     }
     printf("\n");

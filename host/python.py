@@ -62,18 +62,27 @@ RINSE = words_of(
 )
 
 
+KINDS = ("fill", "rinse", "tip")
+
+
+def kinds_of(expected):
+    """The kinds of a set in words."""
+    return " or ".join(name for kind, name in enumerate(KINDS) if expected >> kind & 1)
+
+
 def main():
     """Prints what the library answers."""
     library = loaded(sys.argv[1])
     plan = compiled(library, RINSE)
     print(f"the rinse book: a plan of {len(plan)} bytes")
-    for run in (bytes([0, 1, 2]), bytes([0, 0])):
+    for run in (bytes([0, 1, 2]), bytes([0, 0]), bytes([0, 1])):
         answer, tree = read(library, plan, run)
         records = [f"-{record - EMPTY_RECORD}" if record >= EMPTY_RECORD else str(record) for record in tree]
         if answer.number == DONE:
             print(f"run {list(run)}: accepted, tree {' '.join(records)}")
         else:
-            print(f"run {list(run)}: refused with {answer.number} at {answer.place}, expected {answer.expected:#x}")
+            expected = kinds_of(answer.expected)
+            print(f"run {list(run)}: refused with {answer.number} at {answer.place}, expected {expected}")
 
 
 if __name__ == "__main__":

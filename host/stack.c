@@ -168,9 +168,9 @@ int main(void)
         {"compile, 64 nodes", compiles, {small, sizeof small, NULL, 0}, DRUMBOOK_DONE, 17000},
         {"compile, 65 nodes", compiles, {middle, sizeof middle, NULL, 0}, DRUMBOOK_DONE, 17000},
         {"compile, the largest book", compiles, {large, sizeof large, NULL, 0}, DRUMBOOK_DONE, 17000},
-        {"read, refused: PLAN FORM", reads, {NULL, 0, NULL, 0}, DRUMBOOK_PLAN_FORM, 300},
-        {"read, the rinse plan", reads, {rinse_plan, rinse_size, run, sizeof run}, DRUMBOOK_DONE, 300},
-        {"read, the largest plan", reads, {plan, size, zero, sizeof zero}, DRUMBOOK_DONE, 300},
+        {"read, refused: PLAN FORM", reads, {NULL, 0, NULL, 0}, DRUMBOOK_PLAN_FORM, 400},
+        {"read, the rinse plan", reads, {rinse_plan, rinse_size, run, sizeof run}, DRUMBOOK_DONE, 400},
+        {"read, the largest plan", reads, {plan, size, zero, sizeof zero}, DRUMBOOK_DONE, 400},
     };
     int failed = 0;
     for (size_t i = 0; i < sizeof rows / sizeof *rows; i++) {

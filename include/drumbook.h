@@ -98,10 +98,9 @@ typedef struct {
     uint32_t number;   /* DRUMBOOK_DONE, or one of 8 to 16 */
     uint32_t place;    /* the run's length with 0 and 14, the cell with 9, the event with 11, 12, 13, 15, otherwise 0 */
     uint32_t records;  /* with 0 and 16 how many records the tree has, otherwise 0 */
-    uint64_t expected; /* with 12, 13 and 14 kinds that could have come, bit k for kind k; otherwise 0. Today these are
-                          the kinds that the part held last can begin with (its FIRST set), and not every lawful kind:
-                          where that part may take nothing, what the part below it begins with is lawful too, and is
-                          not in the set */
+    uint64_t expected; /* with 12, 13 and 14 the kinds that could have come, bit k for kind k; otherwise 0. By a
+                          compiled plan these are all kinds that some lawful run has next, behind the events before
+                          the refused one, or at 14 behind the whole run */
 } drumbook_reading;
 
 /*
@@ -109,7 +108,7 @@ typedef struct {
  * first records words of the tree are the derivation, top-down and left to right, a part that takes no event as one
  * empty record, and the rest is zero; with any other number the whole tree is zero. The holding slots are zero after
  * every call. A tree of length 0 asks whether the run is accepted, and for the number of records: DRUMBOOK_NO_ROOM
- * then says accepted, since every accepted run has a record. Takes under 300 bytes of stack, as the form test does.
+ * then says accepted, since every accepted run has a record. Takes under 400 bytes of stack; the form test under 300.
  */
 drumbook_reading drumbook_read(const uint8_t *plan, size_t plan_len, const uint8_t *run, size_t run_len,
                                uint16_t *held, size_t held_len, uint16_t *tree, size_t tree_len);

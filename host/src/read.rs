@@ -20,12 +20,15 @@ pub struct Plan<'a> {
     pub cells: &'a [u8],
 }
 
-/// A plan being run: the held parts, the last one held last, and the records so far.
+/// A plan being run: the held parts, the last one held last, and the records so far; of the event or end under way the
+/// parts that it has taken off, the one held last first, and how many it has left untouched.
 struct Running<'a> {
     plan: &'a Plan<'a>,
     slots: usize,
     held: Vec<u16>,
     records: Vec<u16>,
+    taken_off: Vec<u16>,
+    untouched: usize,
 }
 
 /// Reads a run by a plan.
@@ -53,6 +56,19 @@ fn reading(number: u32, place: usize, records: usize, expected: u64) -> Reading 
     }
 }
 
+/// Whether a run is refused in a walk that has held parts in the place of those that were taken off.
+pub fn written_over(plan: &[u8], run: &[u8], slots: usize) -> bool {
+    let Some(plan) = well_formed(plan) else {
+        return false;
+    };
+    if improper_cell(&plan).is_some() || slots == 0 {
+        return false;
+    }
+    let mut running = Running::of(&plan, slots);
+    let refused = run.iter().find_map(|&kind| running.event(kind).err());
+    refused == Some(UNEXPECTED) && running.held.len() > running.untouched
+}
+
 /// The records of an accepted run, or the refusal.
 fn records_of(plan: &[u8], run: &[u8], slots: usize) -> Result<Vec<u16>, Reading> {
     let plan = well_formed(plan).ok_or(reading(PLAN_FORM, 0, 0, 0))?;
@@ -65,22 +81,13 @@ fn records_of(plan: &[u8], run: &[u8], slots: usize) -> Result<Vec<u16>, Reading
     if slots == 0 {
         return Err(reading(DEEP, 0, 0, 0));
     }
-    let mut running = Running {
-        plan: &plan,
-        slots,
-        held: vec![plan.book.start],
-        records: Vec::new(),
-    };
+    let mut running = Running::of(&plan, slots);
     for (place, &kind) in run.iter().enumerate() {
-        let expected = running.expected();
-        running
-            .event(kind)
-            .map_err(|number| refusal(number, place, expected))?;
+        let outcome = running.event(kind);
+        outcome.map_err(|number| refusal(number, place, running.expected()))?;
     }
-    let expected = running.expected();
-    running
-        .end()
-        .map_err(|number| refusal(number, run.len(), expected))?;
+    let outcome = running.end();
+    outcome.map_err(|number| refusal(number, run.len(), running.expected()))?;
     Ok(running.records)
 }
 
@@ -168,24 +175,61 @@ impl Plan<'_> {
 }
 
 impl Running<'_> {
-    /// The FIRST set of the part held last, by its row; none if none is held.
+    /// A plan before the first event: the start is held.
+    fn of<'a>(plan: &'a Plan<'a>, slots: usize) -> Running<'a> {
+        Running {
+            plan,
+            slots,
+            held: vec![plan.book.start],
+            records: Vec::new(),
+            taken_off: Vec::new(),
+            untouched: 0,
+        }
+    }
+
+    /// The kinds that could have come, by the rows: FIRST of the part that was held last before the event or the end, and
+    /// while parts are nullable, FIRST of the next.
     fn expected(&self) -> u64 {
-        let Some(&last) = self.held.last() else {
-            return 0;
-        };
-        (0..self.plan.book.kinds as u8)
-            .filter(|&kind| self.plan.cell(last, kind) != REFUSE)
-            .map(|kind| 1 << kind)
-            .sum()
+        let before = self
+            .taken_off
+            .iter()
+            .chain(self.held[..self.untouched].iter().rev());
+        let mut set = 0;
+        for &part in before {
+            for kind in 0..self.plan.book.kinds as u8 {
+                if self.plan.cell(part, kind) != REFUSE {
+                    set |= 1 << kind;
+                }
+            }
+            if !self.plan.nullable(part) {
+                break;
+            }
+        }
+        set
+    }
+
+    /// Begins an event or the end: no part is taken off.
+    fn begin(&mut self) {
+        self.taken_off.clear();
+        self.untouched = self.held.len();
+    }
+
+    /// Takes the part held last off.
+    fn take_off(&mut self) -> Option<u16> {
+        let part = self.held.pop()?;
+        self.taken_off.push(part);
+        self.untouched = self.held.len();
+        Some(part)
     }
 
     /// Takes one event, or says which refusal it is.
     fn event(&mut self, kind: u8) -> Result<(), u32> {
+        self.begin();
         if u16::from(kind) >= self.plan.book.kinds {
             return Err(UNKNOWN);
         }
         loop {
-            let part = self.held.pop().ok_or(UNEXPECTED)?;
+            let part = self.take_off().ok_or(UNEXPECTED)?;
             if self.plan.cell(part, kind) != REFUSE {
                 return self.walk(part, kind);
             }
@@ -231,7 +275,8 @@ impl Running<'_> {
 
     /// Takes all held parts off at the end.
     fn end(&mut self) -> Result<(), u32> {
-        while let Some(part) = self.held.pop() {
+        self.begin();
+        while let Some(part) = self.take_off() {
             if !self.plan.nullable(part) {
                 return Err(END);
             }

@@ -9,7 +9,7 @@ use native.Mathlib.Omega.{arith}
 use borrow.Author.Tests.{eqb-true, eq-eqb}
 use lib.Dec.{lit<}
 use lib.Pow.{pow-mono, pow-lt, pow-pos, shr-shr, ones-split, ones-lt, high}
-use lib.Bits.{bitAnd, bitOr, bitXor, differ, and-shr, or-shr, xor-shr, and-step, or-step, xor-step, xor-lt, and-le-r, or-shifted}
+use lib.Bits.{bitAnd, bitOr, bitXor, differ, and-shr, or-shr, xor-shr, and-step, or-step, xor-step, or-lt, xor-lt, and-le-r, or-shifted}
 use lib.Count.{trailingZeros, under, trailing-of-zero}
 use Rattle.kinds.specs.Kinds.{Has, has?, everyKind, onlyKind, setOf, joined, inBoth, withoutKind, lowestKind, LowestIn}
 
@@ -195,6 +195,44 @@ same-bits (suc width) a b ha hb same =
 -- two masks below 2 ^ 64 with the same kinds are equal
 pub same-kinds : {a b : ℕ} → a < 2 ^ 64 → b < 2 ^ 64 → ((k : ℕ) → Has a k ↔ Has b k) → a ≡ b
 same-kinds {a} {b} ha hb same = same-bits 64 a b ha hb same
+
+-- a number is below its power of two
+below-power : (n : ℕ) → n < 2 ^ n
+below-power zero = lit< tt
+below-power (suc n) = omega (arith, below-power n, pow-suc 2 n)
+
+-- of three sets joined it does not matter which two are joined first
+pub join-assoc : (a b c : ℕ) → joined (joined a b) c ≡ joined a (joined b c)
+join-assoc a b c =
+    same-bits width _ _ (or-lt width _ _ (or-lt width a b ha hb) hc) (or-lt width _ _ ha (or-lt width b c hb hc)) (λ k. (to k, from k))
+  where
+    width : ℕ
+    width = a + b + c
+
+    ha : a < 2 ^ (a + b + c)
+    ha = omega (arith, below-power a, pow-mono {i = a} {j = a + b + c} (omega arith))
+
+    hb : b < 2 ^ (a + b + c)
+    hb = omega (arith, below-power b, pow-mono {i = b} {j = a + b + c} (omega arith))
+
+    hc : c < 2 ^ (a + b + c)
+    hc = omega (arith, below-power c, pow-mono {i = c} {j = a + b + c} (omega arith))
+
+    to : (k : ℕ) → Has (joined (joined a b) c) k → Has (joined a (joined b c)) k
+    to k h =
+        has-join a (joined b c) k .1
+        (⊎-elim
+        (λ ab. ⊎-elim (λ x. inl x) (λ y. inr (has-join b c k .1 (inl y))) (has-join a b k .0 ab))
+        (λ z. inr (has-join b c k .1 (inr z)))
+        (has-join (joined a b) c k .0 h))
+
+    from : (k : ℕ) → Has (joined a (joined b c)) k → Has (joined (joined a b) c) k
+    from k h =
+        has-join (joined a b) c k .1
+        (⊎-elim
+        (λ x. inl (has-join a b k .1 (inl x)))
+        (λ bc. ⊎-elim (λ y. inl (has-join a b k .1 (inr y))) (λ z. inr z) (has-join b c k .0 bc))
+        (has-join a (joined b c) k .0 h))
 
 -- a set with every kind of another and more is the greater number
 pub more-kinds : {a b : ℕ} → a < 2 ^ 64 → b < 2 ^ 64 → ((k : ℕ) → Has a k → Has b k) → a ≢ b → a < b

@@ -51,7 +51,7 @@ table =
     ∷ read 3 (answered DEEP 1 0 0) [] "refused 11 1 0\n"
     ∷ read 2 (answered UNKNOWN 1 0 6) [] "refused 12 1 6\n"
     ∷ read 2 (answered UNEXPECTED 1 0 6) [] "refused 13 1 6\n"
-    ∷ read 3 (answered END 3 0 2) [] "refused 14 3 2\n"
+    ∷ read 3 (answered END 3 0 6) [] "refused 14 3 6\n"
     ∷ read 4096 (answered NO-ROOM 0 8193 0) [] "refused 16 0 8193\n"
     ∷ read 0 (answered END 0 0 18446744073709551615) [] "refused 14 0 18446744073709551615\n"
     ∷ []

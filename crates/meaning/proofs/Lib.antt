@@ -5,6 +5,7 @@ pub mod Machine
 pub mod Size
 pub mod Orderly
 pub mod Event
+pub mod Next
 pub mod Run
 pub mod Verdict
 pub mod Theorem

@@ -19,6 +19,7 @@ use Rattle.meaning.proofs.Walk.{part-first}
 use Rattle.meaning.proofs.Size.{first-kind}
 use Rattle.meaning.proofs.Orderly.{Orderly, orderly-run}
 use Rattle.meaning.proofs.Event.{Took, Event, event-taken, event-refused, event-is}
+use Rattle.meaning.proofs.Next.{Behind, behind-none, behind-taken}
 
 -- the run parts at a kind from all that the parts held derive
 pub record Parted (node : ℕ → Node) (held xs before : List ℕ) (k : ℕ) (behind : List ℕ) : Type 0 where
@@ -34,9 +35,10 @@ pub record Unended (node : ℕ → Node) (held xs : List ℕ) : Type 0 where
 -- a run from a place on, with these parts held, by its answer
 pub data Run (node : ℕ → Node) (kinds : ℕ) (held xs : List ℕ) (at : ℕ) : Answer → Type 0 where
   run-accepted : {rs : List ℕ} → Held node held xs rs → Run node kinds held xs at (accepted rs)
-  run-refused : {number i k : ℕ} {before behind parts : List ℕ} → Parted node held xs before k behind → number ≡ refusalOf kinds k
-      → i ≡ at + length before → Run node kinds held xs at (stopped number i parts)
-  run-end : {i : ℕ} {parts : List ℕ} → Unended node held xs → i ≡ at + length xs → Run node kinds held xs at (stopped END i parts)
+  run-refused : {number i k : ℕ} {before behind parts : List ℕ} → Parted node held xs before k behind → Behind node held before parts
+      → number ≡ refusalOf kinds k → i ≡ at + length before → Run node kinds held xs at (stopped number i parts)
+  run-end : {i : ℕ} {parts : List ℕ} → Unended node held xs → Behind node held xs parts → i ≡ at + length xs
+      → Run node kinds held xs at (stopped END i parts)
 
 -- the end, by its answer
 data Finish (node : ℕ → Node) (at : ℕ) (before held : List ℕ) : Answer → Type 0 where
@@ -64,7 +66,7 @@ module _ {node : ℕ → Node} where
   -- nothing held takes no event
   run-finish : {at : ℕ} {held : List ℕ} {a : Answer} (kinds : ℕ) → Orderly node held → Finish node at held held a → Run node kinds held [] at a
   run-finish kinds o (finish-accepted h) = run-accepted h
-  run-finish {at} kinds o (finish-end f) = run-end {i = at} (record { agrees = orderly-run o; differs = f }) (omega arith)
+  run-finish {at} kinds o (finish-end f) = run-end {i = at} (record { agrees = orderly-run o; differs = f }) (behind-none o) (omega arith)
 
   -- one event taken before
   parted-taken : {k j : ℕ} {held then xs before behind rs : List ℕ} → Took node k held then rs → Parted node then xs before j behind
@@ -79,14 +81,15 @@ module _ {node : ℕ → Node} where
       → Run node kinds held (k ∷ xs) at (logged rs a)
   unfolding logged
   run-taken took (run-accepted h) = run-accepted (took .sound _ _ h)
-  run-taken took (run-refused {i = i} p number-is e) = run-refused {i = i} (parted-taken took p) number-is (omega arith)
-  run-taken {xs = xs} took (run-end {i} p e) =
+  run-taken took (run-refused {i = i} p q number-is e) =
+      run-refused {i = i} (parted-taken took p) (behind-taken took q) number-is (omega arith)
+  run-taken {xs = xs} took (run-end {i} p q e) =
       run-end {i = i}
       (record {
         agrees = let t = p .agrees in (t .0, _, took .sound _ _ (t .2));
         differs = λ ps h. let t = took .complete xs ps h in p .differs (t .0) (t .1);
       })
-      (omega arith)
+      (behind-taken took q) (omega arith)
 
   -- refused at once
   parted-here : {k : ℕ} {held xs : List ℕ} → Orderly node held → ((zs ps : List ℕ) → Held node held (k ∷ zs) ps → ⊥)
@@ -97,7 +100,8 @@ module _ {node : ℕ → Node} where
       → ((then : List ℕ) → Orderly node then → Run node kinds then xs (suc at) (rest then)) → Run node kinds held (k ∷ xs) at (onward s rest at held)
   unfolding onward
   run-onward rest h o (event-taken t) f = run-taken t (f _ (t .orderly))
-  run-onward {kinds} {k} {at} rest h o (event-refused g) f = run-refused {number = UNEXPECTED} {i = at} (parted-here o g) (rw (lt-ltb k kinds h)) (omega arith)
+  run-onward {kinds} {k} {at} rest h o (event-refused g) f =
+      run-refused {number = UNEXPECTED} {i = at} (parted-here o g) (behind-none o) (rw (lt-ltb k kinds h)) (omega arith)
 
 module _ {b : Book} (passes : Passes b) (marks : Marks) (marked : Marked (b .node) marks) where
   -- a kind that begins what parts held derive is one of the book's
@@ -129,4 +133,6 @@ module _ {b : Book} (passes : Passes b) (marks : Marks) (marked : Marked (b .nod
           (run-onward (λ then. reads (planFor b marks) unlimited (suc at) then xs) (ltb-true k (b .kinds) e) o (event-is passes marks marked k held o) f)
       go false e f =
           let h = ltb-false k (b .kinds) e in
-          rw e (run-refused {number = UNKNOWN} {i = at} (parted-here o (λ zs ps g. let c = held-kind g in omega arith)) (rw (le-ltb k (b .kinds) h)) (omega arith))
+          rw e
+          (run-refused {number = UNKNOWN} {i = at} (parted-here o (λ zs ps g. let c = held-kind g in omega arith)) (behind-none o)
+          (rw (le-ltb k (b .kinds) h)) (omega arith))

@@ -1,15 +1,17 @@
 -- What a book means to a reading: the records of derivations, and what each answer means.
 use Prim.Native.Nat.{ℕ, suc, _<_}
 use mathlib.Core.Path.{_≡_}
+use mathlib.Core.Logic.{_↔_}
 use mathlib.Core.List.{List, [], _∷_, _++_}
 use mathlib.Core.Bool.{cond}
 use lib.Dec.{ltb}
 use lib.ListN.{length, take, getD}
+use Rattle.kinds.specs.Kinds.{Has}
 use Rattle.book.specs.Book.{Book}
 use Rattle.book.specs.declared.Node.{Node}
 use Rattle.grammar.specs.Derivations.{Derives, d-empty, d-token, d-left, d-right, d-then, d-tagged, d-ref}
 use Rattle.grammar.specs.Derivations.{Lawful, Begins}
-use Rattle.running.specs.Running.{UNKNOWN, UNEXPECTED, END, Answer, emptied, accepted, stopped}
+use Rattle.running.specs.Running.{UNKNOWN, UNEXPECTED, END, Plan, Answer, emptied, accepted, stopped, expected}
 
 -- the records of a part, by the run it takes: a single empty record if it takes no event, else its node's and then
 -- those of its parts
@@ -61,6 +63,17 @@ pub data Means (b : Book) (xs : List ℕ) : Answer → Type 0 where
   means-refused : {number i : ℕ} {held : List ℕ} → Refuses b xs i → number ≡ refusalOf (b .kinds) (getD xs i 0)
       → Means b xs (stopped number i held)
   means-end : {i : ℕ} {held : List ℕ} → Ends b xs i → Means b xs (stopped END i held)
+
+-- the kinds of a set are those that some lawful run has next, behind a beginning
+pub record NextKinds (b : Book) (before : List ℕ) (set : ℕ) : Type 0 where
+  pub next : (k : ℕ) → Has set k ↔ Begins b (before ++ k ∷ [])
+
+-- what the parts held tell, by a plan's rows, that a refusal carries: the kinds that some lawful run has next, behind
+-- the events before its place
+pub data Tells (b : Book) (xs : List ℕ) (p : Plan) : Answer → Type 0 where
+  tells-none : {records : List ℕ} → Tells b xs p (accepted records)
+  tells-next : {number i : ℕ} {held : List ℕ} → NextKinds b (take i xs) (expected p held)
+      → Tells b xs p (stopped number i held)
 
 -- an answer without the parts held that a refusal carries
 unfoldable pub withoutParts : Answer → Answer

@@ -11,7 +11,7 @@ use Rattle.book.specs.Book.{leftOf, rightOf}
 use Rattle.book.specs.Decode.{nodeOf, nodes, nodeAt, typeAt, leftAt, rightAt}
 use Rattle.book.specs.Form.{DONE}
 use Rattle.book.proofs.Decoded.{nodes-below, nodes-beyond}
-use Rattle.plan.specs.Form.{planNodesAt, planCount, planKinds, planFrom, planOf, planJudged, rowAt, Runnable, RowHas}
+use Rattle.plan.specs.Form.{planNodesAt, planCount, planKinds, planStart, planFrom, planOf, planJudged, rowAt, Runnable, RowHas}
 use Rattle.plan.proofs.Laws.{Legal, Done, done, size-small}
 use Rattle.plan.proofs.Children.{left-below, right-below}
 
@@ -78,6 +78,9 @@ module _ {bytes : List ℕ} {count kinds : ℕ} (runs : Runnable bytes count kin
 
   pub few-kinds : kinds ≤ 64
   few-kinds = rw (runs .kinds-is) (all .formed-is .few-kinds)
+
+  pub start-node : planStart bytes < count
+  start-node = rw (runs .count-is) (all .formed-is .start-below)
 
   -- the plan that its bytes are
   pub same-plan : planFrom bytes count kinds ≡ planOf bytes

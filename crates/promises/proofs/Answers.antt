@@ -6,15 +6,16 @@ use mathlib.Core.List.{List}
 use lib.ListN.{length}
 use Rattle.book.specs.Form.{DONE, bookOf}
 use Rattle.book.proofs.Decoded.{formed, well-formed}
-use Rattle.plan.specs.Form.{planFrom}
+use Rattle.plan.specs.Form.{planFrom, planOf}
 use Rattle.plan.proofs.Laws.{size-small}
 use Rattle.compiler.specs.declared.Compiled.{Compiled}
 use Rattle.compiler.specs.Compiles.{Compiles, sizeOf}
 use Rattle.compiler.proofs.Unique.{marks-unique}
 use Rattle.compiler.proofs.Promise.{answer-listed, size-most, room-kept, refused-clear, passed, passed-plan, passed-cell, passed-last}
 use Rattle.compiler.proofs.Promise.{conflict-tells, others-silent}
+use Rattle.running.proofs.Expected.{expected-next}
 use Rattle.reader.specs.Reads.{Outcome, readOf}
-use Rattle.reader.proofs.Answers.{read-told, number-listed, tree-length, refused-zero, records-counted, records-bounded}
+use Rattle.reader.proofs.Answers.{read-told, read-expects, number-listed, tree-length, refused-zero, records-counted, records-bounded}
 use Rattle.reader.proofs.Settles.{read-slotless}
 use Rattle.promises.specs.Promises.{CompileAnswers, ClashesTold, ReadAnswers, PlanByRules}
 
@@ -36,12 +37,17 @@ pub read-answers : (plan run : List ℕ) (slots room : ℕ)
 unfolding planFrom
 read-answers plan run slots room =
     let told = read-told plan run slots room in
+    let kinds = read-expects plan run slots room in
     record {
       listed = number-listed told;
       whole = tree-length told;
       refused-zero = refused-zero told;
       counted = records-counted told;
       few-records = records-bounded told;
+      expects = λ tells.
+          let (before, is, expected-is) = kinds .told tells in
+          (before, is, λ k. rw expected-is (expected-next (planOf plan) before k));
+      expects-none = kinds .silent;
       no-slot = λ none good short. ap (λ (o : Outcome). o .reading) (read-slotless plan run slots room good short none);
     }
 

@@ -1,10 +1,11 @@
 -- The promises are kept: each statement of specs/Promises.antt, for all bytes.
-use Prim.Native.Nat.{ℕ, _≤_}
+use Prim.Native.Nat.{ℕ, _≤_, _<_, _^_}
 use mathlib.Core.Path.{_≡_}
-use mathlib.Core.Logic.{_↔_, _≢_}
+use mathlib.Core.Logic.{_↔_, _≢_, Iff·trans}
 use mathlib.Core.List.{List, [], _∷_}
 use lib.ListN.{length, take}
 use Rattle.words.specs.Words.{zeros, Below}
+use Rattle.kinds.proofs.Laws.{same-kinds}
 use Rattle.book.specs.Book.{Book, WellFormed}
 use Rattle.book.specs.Encode.{bookBytes}
 use Rattle.book.specs.declared.Node.{Node}
@@ -29,7 +30,7 @@ use Rattle.reader.specs.declared.Reading.{Reading}
 use Rattle.reader.specs.Numbers.{NO-ROOM}
 use Rattle.reader.specs.Reads.{Reads}
 use Rattle.reader.proofs.Answers.{reads-unique}
-use Rattle.meaning.specs.Meaning.{tree}
+use Rattle.meaning.specs.Meaning.{tree, NextKinds}
 use Rattle.meaning.proofs.Walks.{walks-take}
 use Rattle.worked.specs.Worked.{Each, Holds, table}
 use Rattle.worked.proofs.Checked.{worked}
@@ -153,6 +154,11 @@ module _ {bytes : List ℕ} {room : ℕ} {a : Compiled} {plan : List ℕ} (compi
 pub bigger-boards-same : {plan run held tree : List ℕ} {r : Reading} {held-after tree-after : List ℕ}
     → Reads plan run held tree r held-after tree-after → OnBiggerBoards plan run held tree r tree-after
 bigger-boards-same read = bigger-boards read
+
+-- What was expected is one set: two sets of 64 kinds that have the kinds next behind a beginning are equal
+pub next-kinds-once : {b : Book} {before : List ℕ} {one other : ℕ} → one < 2 ^ 64 → other < 2 ^ 64 → NextKinds b before one
+    → NextKinds b before other → one ≡ other
+next-kinds-once small few next also = same-kinds small few (λ k. Iff·trans (next .next k) (also .next k .1, also .next k .0))
 
 -- Demand 2 shuts out a compiler that refuses all books, one that passes all, and one that writes no plan
 module _ (answers : List ℕ → ℕ → Compiled) (plans : List ℕ → ℕ → List ℕ)

@@ -9,17 +9,20 @@ use mathlib.Core.List.{List, [], _∷_}
 use mathlib.Core.Logic.{_⊎_, inl, inr, ⊎-elim, _≢_}
 use lib.ListN.{length, take}
 use lib.Seq.{take-at}
+use Rattle.book.specs.Book.{Book}
 use Rattle.book.specs.Form.{DONE, bookOf}
 use Rattle.book.specs.declared.Judged.{Judged}
 use Rattle.book.proofs.Decoded.{Formed, formed}
 use Rattle.grammar.specs.Derivations.{Lawful}
 use Rattle.running.specs.Running.{DEEP, Plan, withSlots, unlimited, Answer, accepted, reading}
 use Rattle.running.specs.Cells.{planFor}
+use Rattle.running.proofs.Agrees.{Agree}
+use Rattle.running.proofs.Expected.{Carried, carried-stopped, reading-carried, expected-agrees}
 use Rattle.running.proofs.Records.{records-few, records-events, records-empty}
 use Rattle.running.proofs.Slots.{slots-free, slots-answer}
 use Rattle.plan.specs.Form.{planOf, planJudged}
 use Rattle.writer.specs.Bytes.{planBytes}
-use Rattle.writer.proofs.PlanDone.{plan-done, plan-reads}
+use Rattle.writer.proofs.PlanDone.{plan-done, plan-agrees, plan-reads}
 use Rattle.compiler.specs.declared.Compiled.{Compiled}
 use Rattle.compiler.specs.Compiles.{Compiles}
 use Rattle.compiler.proofs.Promise.{Passed, passed, passed-form, passed-passes, passed-size, plan-long}
@@ -27,8 +30,8 @@ use Rattle.reader.specs.Numbers.{NO-ROOM}
 use Rattle.reader.specs.Reads.{Outcome, acceptedOf, outcomeOf, runOf, readOf}
 use Rattle.reader.proofs.Answers.{read-told, records-counted}
 use Rattle.reader.proofs.Settles.{read-runs}
-use Rattle.meaning.specs.Meaning.{tree, Means, means-accepted, means-refused, means-end}
-use Rattle.meaning.proofs.Theorem.{reading-means}
+use Rattle.meaning.specs.Meaning.{tree, Means, means-accepted, means-refused, means-end, Tells, tells-none, tells-next}
+use Rattle.meaning.proofs.Theorem.{reading-means, reading-tells}
 use Rattle.promises.specs.Promises.{slotsEnough, roomEnough, ReadsAsMeant, FewRecords}
 use Rattle.promises.proofs.More.{slots-more}
 use Rattle.promises.proofs.Outcomes.{reads-as-meant}
@@ -62,6 +65,13 @@ room-fits p size room records roomy =
       | yes fits ↦ fits
       | no full ↦ absurd (roomy (rw (lt-leb (length records) room (omega arith))))
     ]
+
+-- plans that agree tell the same kinds
+tells-agree : {b : Book} {run : List ℕ} {p q : Plan} {answer : Answer} → Agree p q → Carried (p .count) answer → Tells b run p answer
+    → Tells b run q answer
+tells-agree agree carried tells-none = tells-none
+tells-agree {b} {run} agree (carried-stopped below) (tells-next {i = i} {held} next) =
+    tells-next {i = i} {held = held} (rw (expected-agrees agree below) at next)
 
 module _ {bytes : List ℕ} {room : ℕ} {a : Compiled} {plan : List ℕ} (compiled : Compiles bytes room a plan) (is : a .number ≡ DONE) where
   known : Passed bytes room plan
@@ -103,18 +113,21 @@ module _ {bytes : List ℕ} {room : ℕ} {a : Compiled} {plan : List ℕ} (compi
       ∙ ap (outcomeOf (planOf (planBytes bytes (known .marks))) (length run) tree-room) (slots-free by-facts run slots enough)
 
   -- so it is as the book means, where the tree has room for the records of an accepted run
-  reads-meant : (run : List ℕ) (p : Plan) (tree-room : ℕ)
+  reads-meant : (run : List ℕ) (tree-room : ℕ)
       → ((records : List ℕ) → free-answer run ≡ accepted records → length records ≤ tree-room)
-      → Meant bytes run tree-room (outcomeOf p (length run) tree-room (free-answer run))
-  reads-meant run p tree-room fits =
-      reads-as-meant (passed-passes compiled is) p tree-room (reading-means (passed-passes compiled is) (known .marks) (known .marked) run) fits
+      → Meant bytes run tree-room (outcomeOf (planOf (planBytes bytes (known .marks))) (length run) tree-room (free-answer run))
+  reads-meant run tree-room fits =
+      let passes = passed-passes compiled is in
+      let agree = plan-agrees bytes (known .marks) form in
+      reads-as-meant passes _ tree-room (reading-means passes (known .marks) (known .marked) run)
+      (tells-agree agree (reading-carried agree unlimited run) (reading-tells passes (known .marks) (known .marked) run)) fits
 
   pub passed-reads : (run : List ℕ) (slots tree-room : ℕ) → length run ≤ 65535
       → slotsEnough (bookOf bytes .count) (length run) ≤ slots → roomEnough (bookOf bytes .count) (length run) ≤ tree-room
       → Meant bytes run tree-room (readOf (take (a .size) plan) run slots tree-room)
   passed-reads run slots tree-room short slots-do room-does =
       rw (reads-free run slots tree-room short slots-do)
-      (reads-meant run _ tree-room (λ records e. let few = records-few by-facts unlimited run e in omega arith))
+      (reads-meant run tree-room (λ records e. let few = records-few by-facts unlimited run e in omega arith))
 
   -- whatever the slots and the tree room, where the answer is neither DEEP nor NO ROOM
   pub passed-reads-any : (run : List ℕ) (slots tree-room : ℕ) → length run ≤ 65535
@@ -126,7 +139,7 @@ module _ {bytes : List ℕ} {room : ℕ} {a : Compiled} {plan : List ℕ} (compi
       let p = planOf (planBytes bytes (known .marks)) in
       let is = slots-more (take (a .size) plan) run slots tree-room more (omega arith) not-deep ∙ reads-free run more tree-room short (omega arith) in
       rw is
-      (reads-meant run p tree-room
+      (reads-meant run tree-room
       (λ records e.
       room-fits p (length run) tree-room records
       (λ full. roomy (ap (λ (o : Outcome). o .reading .number) (is ∙ ap (outcomeOf p (length run) tree-room) e) ∙ full))))

@@ -1,22 +1,25 @@
 -- The outcome of a reading as the book means it: from what the answer of the machine means to what its number, place and tree say.
 use Prim.Native.Nat.{ℕ, _-_, _≤_, _<_}
+use native.Mathlib.Nat.{le-of-eq}
 use native.Mathlib.Omega.{arith}
 use borrow.Author.Tests.{le-leb, lt-ltb, le-ltb, ltb-true, ltb-false}
 use mathlib.Core.Path.{_≡_, refl, sym, ap, _∙_}
-use mathlib.Core.Bool.{Bool, true, false, cond}
+use mathlib.Core.Bool.{Bool, true, false, false≢true, cond}
 use mathlib.Core.Logic.{_⊎_, inl, inr, ⊎-elim}
 use mathlib.Core.List.{List, [], _++_}
 use lib.Dec.{ltb}
-use lib.ListN.{length, getD}
+use lib.ListN.{length, take, getD}
+use lib.Seq.{take-all}
 use Rattle.words.specs.Words.{zeros}
 use Rattle.book.specs.Book.{Book}
 use Rattle.book.specs.Form.{DONE}
-use Rattle.running.specs.Running.{UNKNOWN, UNEXPECTED, END, Plan, Answer, accepted, stopped}
+use Rattle.running.specs.Running.{UNKNOWN, UNEXPECTED, END, Plan, Answer, accepted, stopped, tells}
 use Rattle.reader.specs.Numbers.{answered}
 use Rattle.reader.specs.Reads.{Outcome, outcome, acceptedOf, outcomeOf}
 use Rattle.grammar.specs.Derivations.{Lawful}
 use Rattle.grammar.specs.Passing.{Passes}
 use Rattle.meaning.specs.Meaning.{tree, Refuses, Ends, refusalOf, Means, means-accepted, means-refused, means-end, withoutParts}
+use Rattle.meaning.specs.Meaning.{NextKinds, Tells, tells-none, tells-next}
 use Rattle.meaning.proofs.Verdict.{means-unique}
 use Rattle.promises.specs.Promises.{ReadsAsMeant}
 
@@ -126,7 +129,16 @@ module _ {b : Book} {run : List ℕ} where
       go (inr e) = inr (inl e)
   listed-number (means-end m) = inr (inr (inr refl))
 
-module _ {b : Book} (passes : Passes b) {run : List ℕ} (p : Plan) (room : ℕ) {a : Answer} (means : Means b run a)
+-- the kinds that a refusal tells, by its number
+module _ {b : Book} {run : List ℕ} {p : Plan} (size room : ℕ) where
+  -- an outcome whose number tells has the kinds next
+  told-next : {a : Answer} → Tells b run p a → tells (numberOf a) ≡ true
+      → NextKinds b (take (placeOf size a) run) (outcomeOf p size room a .reading .expected)
+  unfolding outcomeOf numberOf placeOf
+  told-next tells-none is = absurd (false≢true is)
+  told-next (tells-next next) is = rw is next
+
+module _ {b : Book} (passes : Passes b) {run : List ℕ} (p : Plan) (room : ℕ) {a : Answer} (means : Means b run a) (tell : Tells b run p a)
     (fits : (records : List ℕ) → a ≡ accepted records → length records ≤ room) where
   -- another answer that means the run has the same number and the same place
   same-number : {other : Answer} → Means b run other → outcomeOf p (length run) room a .reading .number ≡ numberOf other
@@ -148,6 +160,12 @@ module _ {b : Book} (passes : Passes b) {run : List ℕ} (p : Plan) (room : ℕ)
       → outcomeOf p (length run) room a
       ≡ outcome (answered DONE (length run) (length (tree (b .start) d)) 0) (tree (b .start) d ++ zeros (room - length (tree (b .start) d)))
   outcome-is d = ap (outcomeOf p (length run) room) (accepted-is d) ∙ accepted-outcome p (length run) room _ (fits _ (accepted-is d))
+
+  next-kinds : (number : ℕ) → tells number ≡ true → outcomeOf p (length run) room a .reading .number ≡ number
+      → NextKinds b (take (outcomeOf p (length run) room a .reading .place) run) (outcomeOf p (length run) room a .reading .expected)
+  next-kinds number told is =
+      let same : numberOf a ≡ number = sym (outcome-number p _ room a fits) ∙ is in
+      rw (outcome-place p _ room a fits) (told-next (length run) room tell (rw same told))
 
   pub reads-as-meant : ReadsAsMeant b run room (outcomeOf p (length run) room a .reading) (outcomeOf p (length run) room a .tree)
   unfolding numberOf placeOf
@@ -175,5 +193,10 @@ module _ {b : Book} (passes : Passes b) {run : List ℕ} (p : Plan) (room : ℕ)
           λ e. end-number means (sym (outcome-number p _ room a fits) ∙ e .0) (sym (outcome-place p _ room a fits) ∙ e .1),
           λ m. (same-number (means-end {held = []} m), same-place (means-end {held = []} m)),
         );
+        next = λ e. ⊎-elim (next-kinds UNKNOWN refl) (next-kinds UNEXPECTED refl) e;
+        next-end = λ e.
+            let ended = end-number means (sym (outcome-number p _ room a fits) ∙ e) refl in
+            let whole : outcomeOf p (length run) room a .reading .place ≡ length run = outcome-place p _ room a fits ∙ ended .whole in
+            rw (take-all _ run (le-of-eq (sym whole))) at (next-kinds END refl e);
         listed = rw (outcome-number p (length run) room a fits) (listed-number means);
       }

@@ -3,10 +3,10 @@
 -- `read` is `Reads` of its own.
 use Prim.Native.Nat.{ℕ, _+_, _*_, _-_, _≤_, _<_}
 use mathlib.Core.Path.{_≡_}
-use mathlib.Core.Bool.{cond}
+use mathlib.Core.Bool.{true, false, cond}
 use mathlib.Core.Logic.{_↔_, _≢_, _⊎_}
 use mathlib.Core.List.{List, _++_}
-use lib.ListN.{length, getD}
+use lib.ListN.{length, take, getD}
 use Rattle.words.specs.Words.{zeros}
 use Rattle.kinds.specs.Kinds.{Has}
 use Rattle.book.specs.Book.{Book}
@@ -14,7 +14,8 @@ use Rattle.book.specs.Form.{DONE, formOf, bookOf}
 use Rattle.grammar.specs.Rules.{Conflict}
 use Rattle.grammar.specs.Passing.{AllReached, Fruitful, NoConflict}
 use Rattle.grammar.specs.Derivations.{Lawful}
-use Rattle.running.specs.Running.{DEEP, UNKNOWN, UNEXPECTED, END, RUNAWAY, withSlots, accepted, reading}
+use Rattle.running.specs.Running.{DEEP, UNKNOWN, UNEXPECTED, END, RUNAWAY, withSlots, accepted, stopped}
+use Rattle.running.specs.Running.{Next, reading, tells}
 use Rattle.running.specs.Cells.{Marks, Marked, cellOf}
 use Rattle.plan.specs.Form.{cellAt, planCount, planOf, planJudged}
 use Rattle.writer.specs.Bytes.{planBytes}
@@ -24,7 +25,7 @@ use Rattle.compiler.specs.Compiles.{sizeOf}
 use Rattle.reader.specs.declared.Reading.{Reading}
 use Rattle.reader.specs.Numbers.{NO-ROOM, answered}
 use Rattle.reader.specs.Reads.{Reads}
-use Rattle.meaning.specs.Meaning.{tree, Refuses, Ends}
+use Rattle.meaning.specs.Meaning.{tree, Refuses, Ends, NextKinds}
 
 -- Demand 1, compiling: the answer is one of 0 to 7 or 22, a plan has at most 36,376 bytes, and a refusal leaves the
 -- whole plan buffer zero
@@ -36,7 +37,8 @@ pub record CompileAnswers (room : ℕ) (a : Compiled) (plan : List ℕ) : Type 0
 
 -- Demand 1, reading, for all bytes, forged plans included: the answer is 0 or one of 8 to 16, and a refusal leaves
 -- the whole tree buffer zero; the count of records is that of the list that running the plan gives, at most (2N − 2)
--- times the events, and one; no slot is DEEP
+-- times the events, and one; `expected` has, at 12, 13 and 14, the kinds that by the rows may come next where the parts
+-- held before the event refused, or before the end, are held, and at other numbers none; no slot is DEEP
 pub record ReadAnswers (plan run : List ℕ) (slots room : ℕ) (r : Reading) (after : List ℕ) : Type 0 where
   pub listed : (r .number ≡ DONE) ⊎ ((8 ≤ r .number) × (r .number ≤ 16))
   pub whole : length after ≡ room
@@ -45,6 +47,10 @@ pub record ReadAnswers (plan run : List ℕ) (slots room : ℕ) (r : Reading) (a
       → (records : List ℕ) × (reading (planOf plan) (withSlots slots) run ≡ accepted records)
       × (r .records ≡ length records)
   pub few-records : r .records ≤ (2 * planCount plan - 2) * length run + 1
+  pub expects : tells (r .number) ≡ true
+      → (before : List ℕ) × (reading (planOf plan) (withSlots slots) run ≡ stopped (r .number) (r .place) before)
+      × ((k : ℕ) → Has (r .expected) k ↔ Next (planOf plan) k before)
+  pub expects-none : tells (r .number) ≡ false → r .expected ≡ 0
   pub no-slot : slots ≡ 0 → planJudged plan .number ≡ DONE → length run ≤ 65535 → r ≡ answered DEEP 0 0 0
 
 -- Demand 2: given plan room enough, a well-formed book passes exactly when every node is reachable from the start, the
@@ -102,6 +108,10 @@ pub record ReadsAsMeant (b : Book) (run : List ℕ) (room : ℕ) (r : Reading) (
   pub unexpected : (i : ℕ) → ((r .number ≡ UNEXPECTED) × (r .place ≡ i)) ↔ (Refuses b run i × (getD run i 0 < b .kinds))
   -- or the end where more was due
   pub ends : (i : ℕ) → ((r .number ≡ END) × (r .place ≡ i)) ↔ Ends b run i
+  -- `expected` has the kinds that, behind the events before the refused one, begin a lawful run
+  pub next : (r .number ≡ UNKNOWN) ⊎ (r .number ≡ UNEXPECTED) → NextKinds b (take (r .place) run) (r .expected)
+  -- and at the end those that do so behind the whole run
+  pub next-end : r .number ≡ END → NextKinds b run (r .expected)
   -- and nothing else
   pub listed : (r .number ≡ DONE) ⊎ ((r .number ≡ UNKNOWN) ⊎ ((r .number ≡ UNEXPECTED) ⊎ (r .number ≡ END)))
 

@@ -1,22 +1,22 @@
 -- What a reading's outcome says, for any plan and any run.
 use mathlib.Core.Path.{_≡_, refl, sym, ap, _∙_}
-use mathlib.Core.Bool.{Bool, true, false, cond}
+use mathlib.Core.Bool.{Bool, true, false, false≢true, cond}
 use mathlib.Core.Logic.{_⊎_, inl, inr, ⊎-elim}
 use mathlib.Core.List.{List}
-use Prim.Native.Nat.{ℕ, _+_, _*_, _-_, _≤_}
+use Prim.Native.Nat.{ℕ, _+_, _*_, _-_, _≤_, _<_}
 use native.Mathlib.Omega.{arith}
-use borrow.Author.Tests.{leb-true, eqb-false}
+use borrow.Author.Tests.{leb-true, lt-leb, eqb-false}
 use lib.Dec.{ltb, leb, eqb}
 use lib.ListN.{length, length-append, length-replicate}
 use Rattle.words.specs.Words.{zeros}
 use Rattle.book.specs.Form.{DONE}
-use Rattle.running.specs.Running.{Plan, withSlots, Answer, accepted, stopped, expected, tells, reading, DEEP}
+use Rattle.running.specs.Running.{Plan, withSlots, Answer, accepted, stopped, expected, tells, reading, DEEP, UNKNOWN}
 use Rattle.book.specs.Form.{judged}
 use Rattle.book.specs.Decode.{firstBad}
 use Rattle.book.specs.declared.Judged.{Judged}
 use Rattle.plan.specs.Form.{PLAN-FORM, CELL, planOf, planCount, planKinds, planJudged, planGood, cellGood, cellsJudged}
 use Rattle.reader.specs.declared.Reading.{Reading}
-use Rattle.reader.specs.Numbers.{LONG, NO-ROOM, answered}
+use Rattle.reader.specs.Numbers.{LONG, NO-ROOM, answered, refusal}
 use Rattle.reader.specs.Reads.{Outcome, Reads, bare, acceptedOf, outcomeOf, runOf, readOf}
 use Rattle.running.proofs.Records.{records-few}
 use Rattle.reader.proofs.Refusals.{AnswerNumbered, numbered-stopped, reading-numbered}
@@ -52,7 +52,7 @@ module _ (p : Plan) (free : ℕ → Bool) (run : List ℕ) (room : ℕ) where
           told-refused number place (cond (tells number) (expected p held) 0) (omega arith) (omega arith)
 
 -- a plan that is not judged done is 8 or 9
-pub judged-bad : (plan : List ℕ) → (planJudged plan .number ≡ DONE → ⊥) → (8 ≤ planJudged plan .number) × (planJudged plan .number ≤ 15)
+pub judged-bad : (plan : List ℕ) → (planJudged plan .number ≡ DONE → ⊥) → (8 ≤ planJudged plan .number) × (planJudged plan .number ≤ 9)
 unfolding planJudged cellsJudged
 judged-bad plan =
     let count = planCount plan in
@@ -61,7 +61,7 @@ judged-bad plan =
     by-form (planGood plan count kinds) (ltb (firstBad (cellGood plan count kinds) all 0) all) _
   where
     Bad : Judged → Type 0
-    Bad j = (j .number ≡ DONE → ⊥) → (8 ≤ j .number) × (j .number ≤ 15)
+    Bad j = (j .number ≡ DONE → ⊥) → (8 ≤ j .number) × (j .number ≤ 9)
 
     by-form : (form cell : Bool) (place : ℕ) → Bad (cond form (cond cell (judged CELL place) (judged DONE 0)) (judged PLAN-FORM 0))
     by-form true true place bad = omega arith
@@ -79,10 +79,55 @@ read-told plan run slots room =
     (λ none. told-refused DEEP 0 0 (omega arith) (omega arith)))
     (λ long. told-refused LONG 0 0 (omega arith) (omega arith)))
     (λ bad. let (low, high) = judged-bad plan (eqb-false _ _ bad) in
-    told-refused (planJudged plan .number) (planJudged plan .place) 0 low high)
+    told-refused (planJudged plan .number) (planJudged plan .place) 0 low (omega arith))
   where
     ToldSo : Outcome → Type 0
     ToldSo o = Told (planOf plan) (withSlots slots) run room o
+
+-- what is expected: of a refusal that tells it, by the parts held before the event or the end at its place; of any other answer nothing
+pub record Expects (p : Plan) (free : ℕ → Bool) (run : List ℕ) (r : Reading) : Type 0 where
+  pub told : tells (r .number) ≡ true
+      → (before : List ℕ) × (reading p free run ≡ stopped (r .number) (r .place) before) × (r .expected ≡ expected p before)
+  pub silent : tells (r .number) ≡ false → r .expected ≡ 0
+
+module _ (p : Plan) (free : ℕ → Bool) (run : List ℕ) where
+  -- an answer that tells nothing
+  quiet : (number place records : ℕ) → tells number ≡ false → Expects p free run (answered number place records 0)
+  quiet number place records silent = record { told = λ told. absurd (false≢true (sym silent ∙ told)); silent = λ none. refl }
+
+  refusal-expects : (number place : ℕ) (before : List ℕ) → reading p free run ≡ stopped number place before
+      → Expects p free run (refusal number place (expected p before))
+  refusal-expects number place before is =
+      record { told = λ told. (before, is, rw told refl); silent = λ none. rw none refl }
+
+  run-expects : (room : ℕ) → Expects p free run (outcomeOf p (length run) room (reading p free run) .reading)
+  unfolding outcomeOf acceptedOf
+  run-expects room = by-answer (reading p free run) refl
+    where
+      by-answer : (answer : Answer) → reading p free run ≡ answer → Expects p free run (outcomeOf p (length run) room answer .reading)
+      by-answer (accepted records) is =
+          by-test (λ o. Expects p free run (o .reading)) (leb (length records) room)
+          (λ fits. quiet DONE _ _ refl) (λ full. quiet NO-ROOM _ _ refl)
+      by-answer (stopped number place before) is = refusal-expects number place before is
+
+-- a number below 12 tells nothing
+below-tells : {number : ℕ} → number < UNKNOWN → tells number ≡ false
+below-tells {number} low = rw (lt-leb UNKNOWN number low)
+
+-- every reading
+pub read-expects : (plan run : List ℕ) (slots room : ℕ) → Expects (planOf plan) (withSlots slots) run (readOf plan run slots room .reading)
+unfolding readOf runOf
+read-expects plan run slots room =
+    by-test So (eqb (planJudged plan .number) DONE)
+    (λ good. by-test So (leb (length run) 65535)
+    (λ short. by-test So (ltb 0 slots) (λ some. run-expects (planOf plan) (withSlots slots) run room) (λ none. quiet _ _ _ DEEP 0 0 refl))
+    (λ long. quiet _ _ _ LONG 0 0 refl))
+    (λ bad.
+    let low : planJudged plan .number < UNKNOWN = omega (arith, judged-bad plan (eqb-false _ _ bad) .1) in
+    quiet _ _ _ (planJudged plan .number) (planJudged plan .place) 0 (below-tells low))
+  where
+    So : Outcome → Type 0
+    So o = Expects (planOf plan) (withSlots slots) run (o .reading)
 
 -- an outcome's number is 0 or one of 8 to 16
 abbrev NumberListed : Outcome → Type 0

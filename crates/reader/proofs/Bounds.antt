@@ -45,7 +45,7 @@ module _ (p : Plan) (slots : ℕ) (b : Bounded p) (k count written : ℕ) (held 
       (stack-within count))
     where
       unknown : After
-      unknown = stands UNKNOWN count written held tree
+      unknown = stands UNKNOWN true count written held tree
 
       by-kind : (known : Bool) (s : After) {most : ℕ} → (s .spot .number ≡ DONE → Safe (p .count) slots most s)
           → cond known s unknown .spot .number ≡ DONE → Safe (p .count) slots most (cond known s unknown)
@@ -62,6 +62,6 @@ finish-few p (suc count) written held tree = by-null (p .null n) _ (finish-few p
     n = getD held count 0
 
     by-null : (null : Bool) (s : After) → s .spot .written ≤ suc written + count
-        → cond null s (stands END count written held tree) .spot .written ≤ written + suc count
+        → cond null s (stands END true count written held tree) .spot .written ≤ written + suc count
     by-null true s few = omega arith
     by-null false s few = omega arith

@@ -1,11 +1,13 @@
--- Reading is the fold of the step: the events one after the other, then the end.
+-- Reading is the fold of the step: the events one after the other, then the end. A refusal is met after the events before it.
 use mathlib.Core.Path.{_≡_, refl, sym, ap, _∙_}
 use mathlib.Core.Bool.{Bool, true, false, cond}
 use mathlib.Core.List.{List, [], _∷_, _++_, append-assoc}
-use Prim.Native.Nat.{ℕ, suc}
+use Prim.Native.Nat.{ℕ, suc, _+_, _≤_}
+use native.Mathlib.Omega.{arith}
 use lib.Dec.{ltb}
+use lib.ListN.{length, take}
 use Rattle.running.specs.Running.{Plan, Step, taken, refused, event, Answer, accepted, stopped, logged, onward, reads, reading, UNKNOWN}
-use Rattle.reader.specs.Steps.{going, over, advanced, step, steps, closed, begun}
+use Rattle.reader.specs.Steps.{Progress, going, over, advanced, step, steps, closed, begun}
 
 -- records written in two turns
 pub logged-logged : (records more : List ℕ) (answer : Answer) → logged records (logged more answer) ≡ logged (records ++ more) answer
@@ -58,3 +60,48 @@ module _ (p : Plan) (free : ℕ → Bool) where
   pub reading-steps : (run : List ℕ) → reading p free run ≡ closed p (steps p free (begun p) run)
   unfolding reading
   reading-steps run = sym (logged-none (reads p free 0 (p .start ∷ []) run)) ∙ reads-steps run 0 (p .start ∷ []) []
+
+-- the events before a refusal: a reading that is over has taken the events before the place of the refusal
+module _ (p : Plan) (free : ℕ → Bool) where
+  pub data Halted (at : ℕ) (held written run : List ℕ) : Progress → Type 0 where
+    halted-not : {place : ℕ} {after records : List ℕ} → place ≡ at + length run → Halted at held written run (going place after records)
+    halted-at : {number place : ℕ} {before : List ℕ} (i : ℕ) (records : List ℕ) → place ≡ at + i → i ≤ length run
+        → steps p free (going at held written) (take i run) ≡ going place before records
+        → Halted at held written run (over (stopped number place before))
+
+  module _ (k at : ℕ) (held written run : List ℕ)
+      (rest : (h w : List ℕ) → Halted (suc at) h w run (steps p free (going (suc at) h w) run)) where
+    -- refused here
+    halted-here : (number : ℕ) → Halted at held written (k ∷ run) (steps p free (over (stopped number at held)) run)
+    unfolding steps
+    halted-here number =
+        rw (over-stays p free (stopped number at held) run) (halted-at {place = at} 0 written (omega arith) (omega arith) refl)
+
+    -- or later
+    halted-later : {q : Progress} {h w : List ℕ} → step p free (going at held written) k ≡ going (suc at) h w → Halted (suc at) h w run q
+        → Halted at held written (k ∷ run) q
+    unfolding steps
+    halted-later taken-so (halted-not {place} is) = halted-not {place = place} (omega arith)
+    halted-later taken-so (halted-at {place = place} {before} i records is within front) =
+        halted-at {place = place} {before = before} (suc i) records (omega arith) (omega arith)
+        (ap (λ (q : Progress). steps p free q (take i run)) taken-so ∙ front)
+
+    halted-event : (s : Step) → step p free (going at held written) k ≡ advanced s at held written
+        → Halted at held written (k ∷ run) (steps p free (advanced s at held written) run)
+    unfolding advanced
+    halted-event (taken h records) is = halted-later is (rest h (written ++ records))
+    halted-event (refused number) is = halted-here number
+
+    halted-kind : (known : Bool) → ltb k (p .kinds) ≡ known
+        → Halted at held written (k ∷ run)
+        (steps p free (cond known (advanced (event p free k held) at held written) (over (stopped UNKNOWN at held))) run)
+    unfolding step
+    halted-kind true is = halted-event (event p free k held) (rw is)
+    halted-kind false is = halted-here UNKNOWN
+
+  pub steps-halted : (run : List ℕ) (at : ℕ) (held written : List ℕ)
+      → Halted at held written run (steps p free (going at held written) run)
+  unfolding steps step
+  steps-halted [] at held written = halted-not {place = at} (omega arith)
+  steps-halted (k ∷ run) at held written =
+      halted-kind k at held written run (λ h w. steps-halted run (suc at) h w) (ltb k (p .kinds)) refl

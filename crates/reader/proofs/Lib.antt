@@ -1,6 +1,7 @@
 pub mod Slots
 pub mod Refusals
 pub mod Simulation
+pub mod Fold
 pub mod Runs
 mod Bounds
 mod WalkUnderWay
@@ -8,5 +9,5 @@ mod PartsTakenOff
 mod Rows
 mod RunUnderWay
 pub mod Settles
-pub mod Fold
+mod Stops
 pub mod Answers

@@ -51,7 +51,7 @@ module _ {machine : ℕ → ℕ → List ℕ → List ℕ → After} {goal : Aft
 module _ (p : Plan) (k : ℕ) {goal : After} {nodes slots room bound parts records : ℕ} {held tree : List ℕ}
     (w : Taking (takeOf p k) goal nodes slots room bound parts records held tree) where
   -- no part is left
-  pub take-none : parts ≤ 0 → stands UNEXPECTED 0 records held tree ≡ goal
+  pub take-none : parts ≤ 0 → stands UNEXPECTED true 0 records held tree ≡ goal
   unfolding takeOf
   take-none none = let z : parts ≡ 0 = omega arith in rw z at (w .rest)
 
@@ -60,7 +60,7 @@ module _ (p : Plan) (k : ℕ) {goal : After} {nodes slots room bound parts recor
     last = lastAt held parts
 
     taking : offOf (p .cell last k) (p .null last) (walkOf p k (p .count) last (parts - 1) records held tree)
-        (takeOf p k (parts - 1) (records + 1) held (set tree records (emptied last))) (stands UNEXPECTED (parts - 1) records held tree)
+        (takeOf p k (parts - 1) (records + 1) held (set tree records (emptied last))) (stands UNEXPECTED true (parts - 1) records held tree)
         ≡ goal
     unfolding takeOf last
     taking = rw (add-one records) (rw (one-more w some) at (w .rest))
@@ -71,7 +71,7 @@ module _ (p : Plan) (k : ℕ) {goal : After} {nodes slots room bound parts recor
     take-walks walks = rw (ne-eqb (p .cell (lastAt held parts) k) 0 walks) at taking
 
     pub take-refuses : p .cell (lastAt held parts) k ≡ 0 → p .null (lastAt held parts) ≡ false
-        → stands UNEXPECTED (parts - 1) records held tree ≡ goal
+        → stands UNEXPECTED true (parts - 1) records held tree ≡ goal
     unfolding offOf last
     take-refuses is null = rw (is, null) at taking
 
@@ -85,12 +85,12 @@ module _ (p : Plan) (k : ℕ) {goal : After} {nodes slots room bound parts recor
 module _ (p : Plan) {goal : After} {nodes slots room bound parts records : ℕ} {held tree : List ℕ}
     (w : Taking (finishOf p) goal nodes slots room bound parts records held tree) where
   -- no part is left
-  pub finish-none : parts ≤ 0 → stands DONE 0 records held tree ≡ goal
+  pub finish-none : parts ≤ 0 → stands DONE true 0 records held tree ≡ goal
   unfolding finishOf
   finish-none none = let z : parts ≡ 0 = omega arith in rw z at (w .rest)
 
   module _ (some : 0 < parts) where
-    pub finish-refuses : p .null (lastAt held parts) ≡ false → stands END (parts - 1) records held tree ≡ goal
+    pub finish-refuses : p .null (lastAt held parts) ≡ false → stands END true (parts - 1) records held tree ≡ goal
     unfolding finishOf
     finish-refuses null = rw null at (rw (one-more w some) at (w .rest))
 

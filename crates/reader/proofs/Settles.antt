@@ -8,20 +8,17 @@ use native.Mathlib.Omega.{arith}
 use borrow.Author.Tests.{leb-true, le-leb, lt-leb, lt-ltb, eq-eqb, ne-eqb}
 use borrow.Rule.Slice.PartMut.{midOf, putMid, mid-len, post-is}
 use lib.Dec.{leb}
-use lib.ListN.{length, getD, set, take, drop, length-set}
-use lib.Seq.{sets, sets-eq, length-sets, take-at, getD-set-same, drop-length}
+use lib.ListN.{length, take, drop}
+use lib.Seq.{sets, sets-eq, length-sets, take-at, drop-length}
 use Rattle.words.specs.Words.{zeros}
 use Rattle.book.specs.Form.{DONE}
-use Rattle.running.specs.Running.{Plan, withSlots, Answer, reads, reading, DEEP}
-use Rattle.plan.specs.Form.{planFrom, planOf, planCount, planKinds, planStart, planJudged}
-use Rattle.plan.proofs.Laws.{done}
+use Rattle.running.specs.Running.{Plan, Answer, DEEP}
+use Rattle.plan.specs.Form.{planJudged}
 use Rattle.reader.specs.declared.Reading.{Reading}
 use Rattle.reader.specs.Numbers.{LONG, NO-ROOM, answered}
-use Rattle.reader.specs.Machine.{Ended, SlotsHold, stack, readsOf}
 use Rattle.reader.specs.Reads.{Outcome, outcome, bare, acceptedOf, outcomeOf, runOf, readOf}
 use Rattle.reader.specs.Settled.{settledOf}
-use Rattle.reader.proofs.Runs.{SameRun, as-accepted, as-stopped, reads-same}
-use Rattle.reader.proofs.Simulation.{bounded}
+use Rattle.reader.proofs.Runs.{SameRun, as-accepted, as-stopped}
 
 -- what is left of a tree's room, cleared
 rest-cleared : (tree rest : List ℕ) (n : ℕ) → n ≤ length tree → rest ≡ zeros (length (midOf n (length tree - n) tree))
@@ -78,7 +75,8 @@ front tree records fits =
     ap (take (length records)) (sets-eq records tree 0 within) ∙ take-at records (drop (0 + length records) tree) (length records) refl
 
 module _ (p : Plan) where
-  settled-same : {tree : List ℕ} {size : ℕ} {answer : Answer} {e : Ended} → length (e .tree) ≡ length tree → SameRun p tree 0 size answer e
+  pub settled-same : {tree : List ℕ} {size : ℕ} {answer : Answer} {e : Outcome} → length (e .tree) ≡ length tree
+      → SameRun p tree 0 size answer e
       → settledOf (e .reading) (e .tree) ≡ outcomeOf p size (length tree) answer
   unfolding settledOf outcomeOf acceptedOf
   settled-same {tree} {size} room (as-accepted records reads stored) =
@@ -95,29 +93,3 @@ module _ (p : Plan) where
       by-room true e = rw (front tree records (leb-true _ _ e)) refl
       by-room false e = refl
   settled-same room (as-stopped {number = number} some e) = rw (e, room, ne-eqb number DONE (λ none. omega arith))
-
--- a run begins with the start node held, in the first slot
-module _ (plan run held tree : List ℕ) (good : planJudged plan .number ≡ DONE) (some : 0 < length held) where
-  pub started : SlotsHold (planCount plan) (length held) (set held 0 (planStart plan)) 1
-  started =
-      record { long = length-set held 0 (planStart plan); few = some; below = λ i under. only i (omega arith) }
-    where
-      first : getD (set held 0 (planStart plan)) 0 0 < planCount plan
-      first = rw (getD-set-same held 0 (planStart plan) 0 some) (done plan good .formed-is .start-below)
-
-      only : (i : ℕ) → i ≡ 0 → getD (set held 0 (planStart plan)) i 0 < planCount plan
-      only i is = rw is first
-
-  -- the run's end, settled, is the outcome of the run
-  pub run-same : {nodes kinds first : ℕ} → nodes ≡ planCount plan → kinds ≡ planKinds plan → first ≡ planStart plan
-      → (e : Ended) → e ≡ readsOf (planFrom plan nodes kinds) 0 run 1 0 (set held 0 first) tree → length (e .tree) ≡ length tree
-      → settledOf (e .reading) (e .tree) ≡ runOf plan run (length held) (length tree)
-  unfolding runOf reading stack planFrom
-  run-same count-is kinds-is start-is e is room = settled-same (planOf plan) room ends
-    where
-      ends : SameRun (planOf plan) tree 0 (length run) (reads (planOf plan) (withSlots (length held)) 0 (planStart plan ∷ []) run) e
-      ends =
-          rw (is, count-is, kinds-is, start-is)
-          (rw (zero-add, getD-set-same) at
-          (reads-same (planOf plan) (length held) (bounded (record { good = good; count-is = refl; kinds-is = refl }))
-          0 run 1 0 (set held 0 (planStart plan)) tree started))

@@ -1,6 +1,6 @@
 -- The machine on slots and a tree comes to what running a plan comes to: the held list is the slots' stack, the records are those stored.
-use mathlib.Core.Path.{_≡_, refl}
-use mathlib.Core.Bool.{Bool, true, false, cond}
+use mathlib.Core.Path.{_≡_, refl, sym, _∙_}
+use mathlib.Core.Bool.{Bool, true, false, false≢true, cond}
 use mathlib.Core.List.{List, [], _∷_}
 use Prim.Native.Nat.{ℕ, zero, suc, _+_, _<_}
 use native.Mathlib.Omega.{arith}
@@ -10,10 +10,10 @@ use lib.ListN.{length, getD, set}
 use lib.Seq.{sets}
 use Rattle.book.specs.Form.{DONE}
 use Rattle.running.specs.Running.{Plan, withSlots, Move, refuse, take-event, go-left, hold-right, skip-left, go-right, moveOf, emptied}
-use Rattle.running.specs.Running.{Step, taken, refused, noted, visit, takeOff, walk, event, DEEP, UNEXPECTED}
+use Rattle.running.specs.Running.{Step, taken, refused, noted, visit, takeOff, walk, event, DEEP, UNKNOWN, UNEXPECTED}
 use Rattle.plan.specs.Form.{planFrom, Runnable}
 use Rattle.plan.proofs.Runnable.{left-node, right-node}
-use Rattle.reader.specs.Machine.{After, SlotsHold, Go, stands, stack, visitOf, offOf, walkOf, takeOf}
+use Rattle.reader.specs.Machine.{After, SlotsHold, Go, stands, stack, visitOf, offOf, walkOf, takeOf, eventOf}
 use Rattle.reader.proofs.Slots.{stack-length, stack-held, held-more, held-less}
 
 module _ (nodes slots : ℕ) where
@@ -27,7 +27,7 @@ module _ (nodes slots : ℕ) where
 
   -- nothing written yet
   same-none : (tree : List ℕ) (written count : ℕ) (held : List ℕ) → SlotsHold nodes slots held count
-      → SameTaken tree written (stack held count) [] (stands DONE count written held tree)
+      → SameTaken tree written (stack held count) [] (stands DONE false count written held tree)
   same-none tree written count held h = record { number = refl; parts = refl; safe = h; length-is = omega arith; tree-is = refl }
 
   -- a record written first
@@ -76,7 +76,7 @@ module _ (p : Plan) (slots : ℕ) (b : Bounded p) where
       where
         by-slot : (free : Bool) → ltb count slots ≡ free
             → Stepped (p .count) slots tree written (cond free (go l (r ∷ stack held count)) (refused DEEP))
-            (cond free (goes l (suc count) written (set held count r) tree) (stands DEEP count written held tree))
+            (cond free (goes l (suc count) written (set held count r) tree) (stands DEEP false count written held tree))
         by-slot true e =
             let inside : count < slots = ltb-true count slots e in
             let free : count < length held = omega (arith, h .long) in
@@ -114,3 +114,57 @@ module _ (p : Plan) (slots : ℕ) (b : Bounded p) where
         off-same (eqb (p .cell n k) 0) (p .null n) (walk-same (p .count) n count written held tree (held-less h))
         (stepped-noted (p .count) slots (emptied n) (take-same count (suc written) held (set tree written (emptied n)) (held-less h)))
         (as-refused refl)
+
+-- the slots are intact where an event is said to leave them so: it was refused before any walk
+module _ (p : Plan) (k : ℕ) where
+  visit-overwrites : (m : Move) (goes : Go)
+      → ((n count written : ℕ) (held tree : List ℕ) → goes n count written held tree .spot .intact ≡ false)
+      → (l r count written : ℕ) (held tree : List ℕ) → visitOf m goes l r count written held tree .spot .intact ≡ false
+  unfolding visitOf
+  visit-overwrites refuse goes not l r count written held tree = refl
+  visit-overwrites take-event goes not l r count written held tree = refl
+  visit-overwrites go-left goes not l r count written held tree = not l count written held tree
+  visit-overwrites hold-right goes not l r count written held tree =
+      by-slot (ltb count (length held)) _ (not l (suc count) written (set held count r) tree)
+    where
+      by-slot : (free : Bool) (s : After) → s .spot .intact ≡ false
+          → cond free s (stands DEEP false count written held tree) .spot .intact ≡ false
+      by-slot true s is = is
+      by-slot false s is = refl
+  visit-overwrites skip-left goes not l r count written held tree = not r count (suc written) held (set tree written (emptied l))
+  visit-overwrites go-right goes not l r count written held tree = not r count written held tree
+
+  walk-overwrites : (left n count written : ℕ) (held tree : List ℕ) → walkOf p k left n count written held tree .spot .intact ≡ false
+  unfolding walkOf
+  walk-overwrites zero n count written held tree = refl
+  walk-overwrites (suc left) n count written held tree =
+      visit-overwrites (moveOf (p .cell n k)) (walkOf p k left) (walk-overwrites left) (p .left n) (p .right n)
+      count (suc written) held (set tree written n)
+
+  take-intact : (count written : ℕ) (held tree : List ℕ) → takeOf p k count written held tree .spot .intact ≡ true
+      → takeOf p k count written held tree .held ≡ held
+  unfolding takeOf offOf
+  take-intact zero written held tree = λ is. refl
+  take-intact (suc count) written held tree =
+      let n = getD held count 0 in
+      by-cell (eqb (p .cell n k) 0) (p .null n) _ _ (walk-overwrites (p .count) n count written held tree)
+      (take-intact count (suc written) held (set tree written (emptied n)))
+    where
+      by-cell : (none null : Bool) (walked passed : After) → walked .spot .intact ≡ false
+          → (passed .spot .intact ≡ true → passed .held ≡ held)
+          → let s = cond none (cond null passed (stands UNEXPECTED true count written held tree)) walked in
+          s .spot .intact ≡ true → s .held ≡ held
+      by-cell true true walked passed not rest is = rest is
+      by-cell true false walked passed not rest is = refl
+      by-cell false null walked passed not rest is = absurd (false≢true (sym not ∙ is))
+
+  pub event-intact : (count written : ℕ) (held tree : List ℕ) → eventOf p k count written held tree .spot .intact ≡ true
+      → eventOf p k count written held tree .held ≡ held
+  unfolding eventOf
+  event-intact count written held tree = by-kind (ltb k (p .kinds)) _ (take-intact count written held tree)
+    where
+      by-kind : (known : Bool) (s : After) → (s .spot .intact ≡ true → s .held ≡ held)
+          → let t = cond known s (stands UNKNOWN true count written held tree) in
+          t .spot .intact ≡ true → t .held ≡ held
+      by-kind true s same is = same is
+      by-kind false s same is = refl

@@ -1,5 +1,6 @@
 -- A walk under way: what is left of it comes to the whole walk's end, and how each cell goes on or ends it.
 use mathlib.Core.Path.{_≡_, refl, ap, _∙_}
+use mathlib.Core.Bool.{false}
 use mathlib.Core.List.{List}
 use Prim.Native.Nat.{ℕ, zero, suc, _+_, _*_, _≤_, _<_}
 use native.Mathlib.Numerals.{add-one}
@@ -47,7 +48,7 @@ module _ (p : Plan) (k : ℕ) (goal : After) (slots room bound : ℕ) where
 module _ {p : Plan} {k : ℕ} {goal : After} {slots room bound : ℕ} where
   module _ {left n count written : ℕ} {held tree : List ℕ} (w : Walking p k goal slots room bound left n count written held tree) where
     -- no visit left
-    pub walk-ends : left ≤ 0 → stands RUNAWAY count written held tree ≡ goal
+    pub walk-ends : left ≤ 0 → stands RUNAWAY false count written held tree ≡ goal
     unfolding walkOf
     walk-ends none = let z : left ≡ 0 = omega arith in rw z at (w .rest)
 
@@ -65,15 +66,15 @@ module _ {p : Plan} {k : ℕ} {goal : After} {slots room bound : ℕ} where
         }
 
   module _ {left n count written : ℕ} {held tree : List ℕ} (v : Visiting p k goal slots room bound left n count written held tree) where
-    pub visit-takes : p .cell n k ≡ 1 → stands DONE count written held tree ≡ goal
+    pub visit-takes : p .cell n k ≡ 1 → stands DONE false count written held tree ≡ goal
     unfolding visitOf moveOf
     visit-takes is = rw is at (v .rest)
 
-    pub visit-refuses : NoCell (p .cell n k) → stands UNEXPECTED count written held tree ≡ goal
+    pub visit-refuses : NoCell (p .cell n k) → stands UNEXPECTED false count written held tree ≡ goal
     unfolding visitOf
     visit-refuses none = rw (no-cell (p .cell n k) none) at (v .rest)
 
-    pub visit-deep : p .cell n k ≡ 3 → length held ≤ count → stands DEEP count written held tree ≡ goal
+    pub visit-deep : p .cell n k ≡ 3 → length held ≤ count → stands DEEP false count written held tree ≡ goal
     unfolding visitOf moveOf
     visit-deep is full = rw (is, le-ltb count (length held) full) at (v .rest)
 

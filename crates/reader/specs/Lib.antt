@@ -1,6 +1,6 @@
 pub mod Numbers
+pub mod Reads
 pub mod Machine
 pub mod Ready
-pub mod Reads
 pub mod Settled
 pub mod Steps

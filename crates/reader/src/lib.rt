@@ -1,15 +1,15 @@
 // The reader: runs a plan over a run of events, numbers 8 to 16.
 ghost use mathlib.Core.Path.{_≡_};
-ghost use mathlib.Core.Bool.{cond};
+ghost use mathlib.Core.Bool.{true};
 ghost use Prim.Native.Nat.{_≤_, _<_};
 ghost use lib.ListN.{length, set};
-ghost use Rattle.running.specs.Running.{rowFirst, tells};
-ghost use Rattle.plan.specs.Form.{planFrom, planJudged, Runnable};
-ghost use Rattle.reader.specs.Machine.{after, afterEvent, ended, lastOf, expectedOf};
-ghost use Rattle.reader.specs.Machine.{walkOf, eventOf, takenOf, finishOf, closeOf, readsOf};
-ghost use Rattle.reader.specs.Numbers.{answered, refusal};
+ghost use Rattle.running.specs.Running.{withSlots, rowFirst, expected, reading, tells};
+ghost use Rattle.plan.specs.Form.{planStart, planFrom, planJudged, Runnable};
+ghost use Rattle.reader.specs.Machine.{SlotsHold, after, stoppedAt, stack};
+ghost use Rattle.reader.specs.Machine.{walkOf, eventOf, finishOf, closeOf, passOf};
+ghost use Rattle.reader.specs.Numbers.{answered};
 ghost use Rattle.reader.specs.Ready.{Ready};
-ghost use Rattle.reader.specs.Reads.{Reads, outcome, bare, runOf, readOf};
+ghost use Rattle.reader.specs.Reads.{Reads, outcome, bare, outcomeOf, runOf, readOf};
 ghost use Rattle.reader.specs.Settled.{settledOf};
 use book::DONE;
 use kinds::single;
@@ -44,9 +44,11 @@ pub const MOST_EVENTS: usize = 65535;
 // What is added to a node's number in an empty record.
 pub const EMPTY: usize = 32768;
 
-// How the machine stands: the answer's number, 0 where it may go on; the parts held; the records written.
+// How the machine stands: the answer's number, 0 where it may go on; whether the slots still have the parts held
+// before; the parts held; the records written.
 pub struct Spot {
     pub number: u32,
+    pub intact: bool,
     pub count: usize,
     pub written: usize,
 }
@@ -60,9 +62,12 @@ pub struct Reading {
     pub expected: u64,
 }
 
-// How an event came out: the answer, with number 0 where it was taken; the parts then held; the records then written.
-pub struct Taken {
-    pub reading: Reading,
+// Where the events of a run stop: the refusal's number, 0 at their end; whether the slots still have the parts held
+// before the event refused; its place, or the run's length; the parts held and the records written before it.
+pub struct Stop {
+    pub number: u32,
+    pub intact: bool,
+    pub at: usize,
     pub count: usize,
     pub written: usize,
 }
@@ -106,6 +111,7 @@ fn walk(
             1 => {
                 return Spot {
                     number: DONE,
+                    intact: false,
                     count: parts,
                     written: records,
                 };
@@ -117,6 +123,7 @@ fn walk(
                 if held.len() <= parts {
                     return Spot {
                         number: DEEP,
+                        intact: false,
                         count: parts,
                         written: records,
                     };
@@ -136,6 +143,7 @@ fn walk(
             _ => {
                 return Spot {
                     number: UNEXPECTED,
+                    intact: false,
                     count: parts,
                     written: records,
                 };
@@ -144,13 +152,14 @@ fn walk(
     }
     Spot {
         number: RUNAWAY,
+        intact: false,
         count: parts,
         written: records,
     }
 }
 
 // One event: the part held last is taken off, until one walks or the event is refused.
-fn event(
+pub fn take_event(
     plan: &[u8],
     nodes: usize,
     kinds: usize,
@@ -168,6 +177,7 @@ fn event(
     if kinds <= kind {
         return Spot {
             number: UNKNOWN,
+            intact: true,
             count: count,
             written: written,
         };
@@ -183,6 +193,7 @@ fn event(
         if cell_at(plan, nodes, kinds, node, kinds) != 1 {
             return Spot {
                 number: UNEXPECTED,
+                intact: true,
                 count: parts,
                 written: records,
             };
@@ -192,6 +203,7 @@ fn event(
     }
     Spot {
         number: UNEXPECTED,
+        intact: true,
         count: 0,
         written: records,
     }
@@ -219,6 +231,7 @@ fn finish(
         if cell_at(plan, nodes, kinds, node, kinds) != 1 {
             return Spot {
                 number: END,
+                intact: true,
                 count: parts,
                 written: records,
             };
@@ -228,9 +241,17 @@ fn finish(
     }
     Spot {
         number: DONE,
+        intact: true,
         count: 0,
         written: records,
     }
+}
+
+// Whether a refusal tells what was expected: 12, 13 and 14 do.
+fn tells_kinds(number: u32) -> bool
+    ensures { λ r. ⌜ r ≡ tells number ⌝ }
+{
+    UNKNOWN <= number && number <= END
 }
 
 // The kinds of a node's row whose cells are not 0.
@@ -242,92 +263,52 @@ fn row_first(plan: &[u8], nodes: usize, kinds: usize, node: usize) -> u64
     let mut kind = 0;
     while kind < kinds {
         if cell_at(plan, nodes, kinds, node, kind) != 0 {
-            first += single(kind);
+            first = first | single(kind);
         }
         kind += 1;
     }
     first
 }
 
-// The part held last; 0 where none is held.
-fn last_part(held: &[u16], count: usize) -> usize
-    requires { ⌜ count ≤ length (now held) ⌝ }
-    ensures { λ r. ⌜ r ≡ lastOf (now (held .entry)) count ⌝ }
+// The kinds that may come next where so many parts are held: FIRST of the part held last, and while parts are nullable,
+// of the next.
+fn expected_by(plan: &[u8], nodes: usize, kinds: usize, count: usize, held: &[u16]) -> u64
+    requires { ⌜ (Runnable (now plan) nodes kinds) × (SlotsHold nodes (length (now held)) (now held) count) ⌝ }
+    ensures { λ r. ⌜ r ≡ expected (planFrom (now (plan .entry)) nodes kinds) (stack (now (held .entry)) count) ⌝ }
 {
-    if count == 0 {
-        return 0;
+    let mut set = 0;
+    let mut parts = count;
+    while 0 < parts {
+        parts -= 1;
+        let part = held[parts] as usize;
+        set = set | row_first(plan, nodes, kinds, part);
+        if cell_at(plan, nodes, kinds, part, kinds) != 1 {
+            return set;
+        }
     }
-    held[count - 1] as usize
+    set
 }
 
-// The kinds that a refusal tells, where so many parts were held, this one last.
-fn expected_at(
-    plan: &[u8],
-    nodes: usize,
-    kinds: usize,
-    number: u32,
-    count: usize,
-    last: usize,
-) -> u64
-    requires { ⌜ (Runnable (now plan) nodes kinds) × (last < nodes) ⌝ }
-    ensures { λ r. ⌜ r ≡ cond (tells number) (expectedOf (planFrom (now (plan .entry)) nodes kinds) count last) 0 ⌝ }
-{
-    if number < UNKNOWN {
-        return 0;
-    }
-    if END < number {
-        return 0;
-    }
-    if count == 0 {
-        return 0;
-    }
-    row_first(plan, nodes, kinds, last)
-}
-
-// The answer at a place, a refusal unless the number is 0, where so many parts were held, this one last.
-fn refuse(
+// A refusal at a place that tells what was expected, by the parts held before anything was taken off.
+pub fn refuse(
     plan: &[u8],
     nodes: usize,
     kinds: usize,
     number: u32,
     at: usize,
     count: usize,
-    last: usize,
+    held: &[u16],
 ) -> Reading
-    requires { ⌜ (Runnable (now plan) nodes kinds) × (last < nodes) × (at < 65536) ⌝ }
-    ensures { λ r. ⌜ r ≡ refusal number at (expectedOf (planFrom (now (plan .entry)) nodes kinds) count last) ⌝ }
+    requires { ⌜ (Runnable (now plan) nodes kinds) × (SlotsHold nodes (length (now held)) (now held) count)
+        × (at < 65536) ⌝ }
+    ensures { λ r. ⌜ r ≡ answered number at 0
+        (expected (planFrom (now (plan .entry)) nodes kinds) (stack (now (held .entry)) count)) ⌝ }
 {
     Reading {
         number: number,
         place: at as u32,
         records: 0,
-        expected: expected_at(plan, nodes, kinds, number, count, last),
-    }
-}
-
-// One event at a place of a run: taken, or refused with its answer.
-pub fn take_event(
-    plan: &[u8],
-    nodes: usize,
-    kinds: usize,
-    kind: usize,
-    at: usize,
-    count: usize,
-    written: usize,
-    held: &mut [u16],
-    tree: &mut [u16],
-) -> Taken
-    requires { ⌜ (Ready (now plan) nodes kinds count written (now held)) × (at < 65536) ⌝ }
-    ensures { λ r. ⌜ afterEvent r (now (held .exit)) (now (tree .exit))
-        ≡ takenOf (planFrom (now (plan .entry)) nodes kinds) kind at count written
-        (now (held .entry)) (now (tree .entry)) ⌝ }
-{
-    let last = last_part(held, count);
-    let spot = event(plan, nodes, kinds, kind, count, written, held, tree);
-    Taken {
-        reading: refuse(plan, nodes, kinds, spot.number, at, count, last),
-        count: spot.count,
-        written: spot.written,
+        expected: expected_by(plan, nodes, kinds, count, held),
     }
 }
 
@@ -343,14 +324,13 @@ fn close(
     tree: &mut [u16],
 ) -> Reading
     requires { ⌜ (Ready (now plan) nodes kinds count written (now held)) × (at < 65536) ⌝ }
-    ensures { λ r. ⌜ ended r (now (held .entry)) (now (tree .exit))
+    ensures { λ r. ⌜ outcome r (now (tree .exit))
         ≡ closeOf (planFrom (now (plan .entry)) nodes kinds) at count written
         (now (held .entry)) (now (tree .entry)) ⌝ }
 {
-    let last = last_part(held, count);
     let spot = finish(plan, nodes, kinds, count, written, held, tree);
     if spot.number != DONE {
-        return refuse(plan, nodes, kinds, spot.number, at, count, last);
+        return refuse(plan, nodes, kinds, spot.number, at, count, held);
     }
     Reading {
         number: DONE,
@@ -360,7 +340,60 @@ fn close(
     }
 }
 
-// The run: each event in turn, then the end.
+// The events of a run, from its beginning until one is refused.
+fn pass_events(
+    plan: &[u8],
+    nodes: usize,
+    kinds: usize,
+    run: &[u8],
+    held: &mut [u16],
+    tree: &mut [u16],
+) -> Stop
+    requires { ⌜ (Runnable (now plan) nodes kinds) × (length (now run) ≤ 65535) × (0 < length (now held)) ⌝ }
+    ensures { λ r. ⌜ (stoppedAt r (now (held .exit)) (now (tree .exit))
+        ≡ passOf (planFrom (now (plan .entry)) nodes kinds) 0 (now (run .entry)) 1 0
+        (set (now (held .entry)) 0 (planStart (now (plan .entry)))) (now (tree .entry)))
+        × (r .intact ≡ true → Ready (now (plan .entry)) nodes kinds (r .count) (r .written) (now (held .exit))) ⌝ }
+{
+    held[0] = plan_start(plan) as u16;
+    let mut at = 0;
+    let mut count = 1;
+    let mut written = 0;
+    while at < run.len() {
+        let spot = take_event(
+            plan,
+            nodes,
+            kinds,
+            wide(run[at]),
+            count,
+            written,
+            held,
+            tree,
+        );
+        if spot.number != DONE {
+            return Stop {
+                number: spot.number,
+                intact: spot.intact,
+                at: at,
+                count: count,
+                written: written,
+            };
+        }
+        count = spot.count;
+        written = spot.written;
+        at += 1;
+    }
+    Stop {
+        number: DONE,
+        intact: true,
+        at: at,
+        count: count,
+        written: written,
+    }
+}
+
+// The run: its events, then the end or the refusal. Where a walk met a zero, which only a forged plan has, it has
+// written over the parts held before: the run is read again up to that event.
 fn events(
     plan: &[u8],
     nodes: usize,
@@ -369,34 +402,38 @@ fn events(
     held: &mut [u16],
     tree: &mut [u16],
 ) -> Reading
-    requires { ⌜ (Ready (now plan) nodes kinds 1 0 (now held)) × (length (now run) ≤ 65535) ⌝ }
-    ensures { λ r. ⌜ ended r (now (held .exit)) (now (tree .exit))
-        ≡ readsOf (planFrom (now (plan .entry)) nodes kinds) 0 (now (run .entry)) 1 0
-        (now (held .entry)) (now (tree .entry)) ⌝ }
+    requires { ⌜ (Runnable (now plan) nodes kinds) × (length (now run) ≤ 65535) × (0 < length (now held)) ⌝ }
+    ensures { λ r. ⌜ settledOf r (now (tree .exit))
+        ≡ outcomeOf (planFrom (now (plan .entry)) nodes kinds) (length (now (run .entry))) (length (now (tree .entry)))
+        (reading (planFrom (now (plan .entry)) nodes kinds) (withSlots (length (now (held .entry))))
+        (now (run .entry))) ⌝ }
 {
-    let mut at = 0;
-    let mut count = 1;
-    let mut written = 0;
-    while at < run.len() {
-        let taken = take_event(
+    let stop = pass_events(plan, nodes, kinds, run, held, tree);
+    if stop.number == DONE {
+        return close(
             plan,
             nodes,
             kinds,
-            wide(run[at]),
-            at,
-            count,
-            written,
+            stop.at,
+            stop.count,
+            stop.written,
             held,
             tree,
         );
-        if taken.reading.number != DONE {
-            return taken.reading;
-        }
-        count = taken.count;
-        written = taken.written;
-        at += 1;
     }
-    close(plan, nodes, kinds, at, count, written, held, tree)
+    if !tells_kinds(stop.number) {
+        return Reading {
+            number: stop.number,
+            place: stop.at as u32,
+            records: 0,
+            expected: 0,
+        };
+    }
+    if stop.intact {
+        return refuse(plan, nodes, kinds, stop.number, stop.at, stop.count, held);
+    }
+    let again = pass_events(plan, nodes, kinds, &run[..stop.at], held, &mut tree[..0]);
+    refuse(plan, nodes, kinds, stop.number, stop.at, again.count, held)
 }
 
 // A refusal before any event: the tree is cleared.
@@ -440,7 +477,6 @@ fn run_plan(plan: &[u8], run: &[u8], held: &mut [u16], tree: &mut [u16]) -> Read
     ensures { λ r. ⌜ outcome r (now (tree .exit))
         ≡ runOf (now (plan .entry)) (now (run .entry)) (length (now (held .entry))) (length (now (tree .entry))) ⌝ }
 {
-    held[0] = plan_start(plan) as u16;
     settle(
         events(plan, plan_count(plan), plan_kinds(plan), run, held, tree),
         tree,

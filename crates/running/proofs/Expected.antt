@@ -1,13 +1,18 @@
--- Plans that agree answer the same expected kinds: the parts that a refusal carries are below the count.
-use mathlib.Core.Path.{_≡_, refl, ap, ap₂, _∙_}
+-- What was expected, kind by kind; and plans that agree answer the same expected kinds: the parts that a refusal carries are below the
+-- count.
+use mathlib.Core.Path.{_≡_, refl, ap₂}
 use mathlib.Core.Bool.{Bool, true, false, cond}
+use mathlib.Core.Logic.{_↔_, _≢_, _⊎_, inl, inr, ⊎-elim}
 use mathlib.Core.List.{List, [], _∷_}
-use Prim.Native.Nat.{ℕ, zero, suc, _+_, _^_, _≤_}
+use Prim.Native.Nat.{ℕ, zero, suc, _≤_, _<_}
+use native.Mathlib.Decide.{ℕ-discrete}
 use native.Mathlib.Omega.{arith}
-use borrow.Author.Tests.{ltb-true}
+use borrow.Author.Tests.{ltb-true, eqb-false, ne-eqb}
 use lib.Dec.{ltb, eqb}
+use Rattle.kinds.specs.Kinds.{Has, onlyKind, joined}
+use Rattle.kinds.proofs.Laws.{none, has-single, has-join}
 use Rattle.running.specs.Running.{Plan, Step, event, Answer, accepted, stopped, UNKNOWN, END, emptied}
-use Rattle.running.specs.Running.{logged, onward, finish, reads, reading, rowFirst, expected}
+use Rattle.running.specs.Running.{logged, onward, finish, reads, reading, rowFirst, expected, Next, next-here, next-under}
 use Rattle.running.proofs.Agrees.{Agree, Below, none-held, one-held, Kept, kept-taken, kept-refused, event-kept}
 
 -- an answer that carries only parts below a count
@@ -57,8 +62,66 @@ module _ {p q : Plan} (agree : Agree p q) where
   pub expected-agrees : {held : List ℕ} → Below (p .count) held → expected p held ≡ expected q held
   unfolding expected rowFirst
   expected-agrees none-held = refl
-  expected-agrees (one-held {n} small below) = row (p .kinds) (omega arith) ∙ ap (rowFirst q n) (agree .kinds)
+  expected-agrees (one-held {n} {held} small below) =
+      rw (row (p .kinds) (omega arith), agree .kinds, agree .null n small, expected-agrees below) refl
     where
       row : (k : ℕ) → k ≤ p .kinds → rowFirst p n k ≡ rowFirst q n k
       row zero within = refl
-      row (suc k) within = ap₂ (λ (c r : ℕ). cond (eqb c 0) 0 (2 ^ k) + r) (agree .cell n k small within) (row k (omega arith))
+      row (suc k) within = ap₂ (λ (c r : ℕ). joined r (cond (eqb c 0) 0 (onlyKind k))) (agree .cell n k small within) (row k (omega arith))
+
+module _ (p : Plan) where
+  -- a row's set has the kinds whose cells are not 0
+  module _ (n k : ℕ) where
+    -- below a number
+    abbrev InRow : ℕ → Type 0
+    InRow below = (k < below) × (p .cell n k ≢ 0)
+
+    in-cell : (below : ℕ) (none-there : Bool) → eqb (p .cell n below) 0 ≡ none-there
+        → Has (cond none-there 0 (onlyKind below)) k → InRow (suc below)
+    in-cell below true is has = absurd (none has)
+    in-cell below false is has = let same = has-single k below .0 has in (omega arith, rw same (eqb-false _ _ is))
+
+    row-has : (below : ℕ) → Has (rowFirst p n below) k → InRow below
+    unfolding rowFirst
+    row-has zero has = absurd (none has)
+    row-has (suc below) has =
+        ⊎-elim (λ early. let (less, some) = row-has below early in (omega arith, some)) (in-cell below (eqb (p .cell n below) 0) refl)
+        (has-join _ _ k .0 has)
+
+    has-row : (below : ℕ) → InRow below → Has (rowFirst p n below) k
+    unfolding rowFirst
+    has-row zero (less, some) = absurd (omega arith)
+    has-row (suc below) (less, some) =
+        let join = has-join (rowFirst p n below) (cond (eqb (p .cell n below) 0) 0 (onlyKind below)) k .1 in
+        elim (ℕ-discrete k below) [
+          | yes same ↦ join (inr (rw (ne-eqb (p .cell n below) 0 (rw same at some)) (has-single k below .1 same)))
+          | no other ↦ join (inl (has-row below (omega (arith, other), some)))
+        ]
+
+  no-next : {k : ℕ} → Next p k [] → ⊥
+  no-next = elim [ ]
+
+  module _ (n k : ℕ) (held : List ℕ) (rest : Has (expected p held) k ↔ Next p k held) where
+    under : (null : Bool) → p .null n ≡ null → Has (cond null (expected p held) 0) k → Next p k (n ∷ held)
+    under true is has = next-under is (rest .0 has)
+    under false is has = absurd (none has)
+
+    join : Has (rowFirst p n (p .kinds)) k ⊎ Has (cond (p .null n) (expected p held) 0) k
+        → Has (joined (rowFirst p n (p .kinds)) (cond (p .null n) (expected p held) 0)) k
+    join = has-join _ _ k .1
+
+    from-next : Next p k (n ∷ held) → Has (joined (rowFirst p n (p .kinds)) (cond (p .null n) (expected p held) 0)) k
+    from-next (next-here less some) = join (inl (has-row n k (p .kinds) (less, some)))
+    from-next (next-under is next) = join (inr (rw is (rest .1 next)))
+
+  -- the expected kinds are those that may come next
+  pub expected-next : (held : List ℕ) (k : ℕ) → Has (expected p held) k ↔ Next p k held
+  unfolding expected
+  expected-next [] k = (λ has. absurd (none has), λ next. absurd (no-next next))
+  expected-next (n ∷ held) k =
+      let rest = expected-next held k in (
+        λ has.
+            ⊎-elim (λ here. let (less, some) = row-has n k (p .kinds) here in next-here less some) (under n k held rest (p .null n) refl)
+            (has-join _ _ k .0 has),
+        from-next n k held rest,
+      )

@@ -1,10 +1,13 @@
 -- Running a plan, sentence by sentence as document 01 has it, for any cells, forged ones too. The list of held parts
 -- has the part held last in front.
-use Prim.Native.Nat.{ℕ, zero, suc, _+_, _^_}
+use Prim.Native.Nat.{ℕ, zero, suc, _+_, _<_}
+use mathlib.Core.Path.{_≡_}
+use mathlib.Core.Logic.{_≢_}
 use mathlib.Core.Bool.{Bool, true, _&&_, cond}
 use mathlib.Core.List.{List, [], _∷_, _++_}
 use lib.Dec.{ltb, leb, eqb}
 use lib.ListN.{length, getD}
+use Rattle.kinds.specs.Kinds.{onlyKind, joined}
 
 -- the numbers of the refusals that a run can meet
 abbrev pub DEEP : ℕ
@@ -106,15 +109,22 @@ module _ (p : Plan) where
   finish at before (n ∷ held) =
       cond (p .null n) (logged (emptied n ∷ []) (finish at before held)) (stopped END at before)
 
-  -- the kinds below a number whose cell in a node's row is not 0, as a sum of powers of two
+  -- the kinds below a number whose cell in a node's row is not 0
   unfoldable pub rowFirst : ℕ → ℕ → ℕ
   rowFirst n zero = 0
-  rowFirst n (suc k) = cond (eqb (p .cell n k) 0) 0 (2 ^ k) + rowFirst n k
+  rowFirst n (suc k) = joined (rowFirst n k) (cond (eqb (p .cell n k) 0) 0 (onlyKind k))
 
-  -- the FIRST set, by the row's nonzero cells, of the part held last; 0 if none is held
+  -- the kinds that may come next: FIRST, by the row's nonzero cells, of the part held last, and while parts are
+  -- nullable by their rows, of the next
   unfoldable pub expected : List ℕ → ℕ
   expected [] = 0
-  expected (n ∷ held) = rowFirst n (p .kinds)
+  expected (n ∷ held) = joined (rowFirst n (p .kinds)) (cond (p .null n) (expected held) 0)
+
+  -- a kind may come next where parts are held: its cell in the row of the part held last is not 0, or that part is
+  -- nullable by its row and the kind may come next where the parts under it are held
+  pub data Next (k : ℕ) : List ℕ → Type 0 where
+    next-here : {n : ℕ} {held : List ℕ} → k < p .kinds → p .cell n k ≢ 0 → Next k (n ∷ held)
+    next-under : {n : ℕ} {held : List ℕ} → p .null n ≡ true → Next k held → Next k (n ∷ held)
 
   -- whether a slot is free where so many parts are held
   module _ (free : ℕ → Bool) where

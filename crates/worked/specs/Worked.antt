@@ -64,7 +64,7 @@ table =
     ∷ read plan (0 ∷ 1 ∷ 2 ∷ []) 2 7 (answered 16 0 8 0) (zeros 7)
     ∷ read plan (0 ∷ 2 ∷ []) 2 8 (answered 0 2 5 0) (8 ∷ 0 ∷ 7 ∷ 32774 ∷ 2 ∷ 0 ∷ 0 ∷ 0 ∷ [])
     ∷ read plan (0 ∷ 0 ∷ []) 2 8 (answered 13 1 0 6) (zeros 8)
-    ∷ read plan [] 2 0 (answered 14 0 0 1) [] ∷ read plan (0 ∷ 1 ∷ 1 ∷ []) 2 0 (answered 14 3 0 2) []
+    ∷ read plan [] 2 0 (answered 14 0 0 1) [] ∷ read plan (0 ∷ 1 ∷ 1 ∷ []) 2 0 (answered 14 3 0 6) []
     ∷ read plan (0 ∷ 2 ∷ 1 ∷ []) 2 0 (answered 13 2 0 0) [] ∷ read plan (0 ∷ 3 ∷ []) 2 0 (answered 12 1 0 6) []
     ∷ compiled (book 1 2 (Token 0 ∷ Token 0 ∷ Either 0 1 ∷ [])) 2 (answer 6 2 0 0 1) (0 ∷ 0 ∷ [])
     ∷ compiled (book 1 2 (Empty ∷ Empty ∷ Either 0 1 ∷ [])) 2 (answer 6 2 0 1 0) (0 ∷ 0 ∷ [])

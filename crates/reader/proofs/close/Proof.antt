@@ -3,40 +3,29 @@ use mathlib.Core.Path.{ap}
 use native.Mathlib.Omega.{arith}
 use borrow.Author.Needs.{needs}
 use Rattle.plan.specs.Form.{planFrom}
-use Rattle.plan.proofs.Runnable.{some-node}
 use Rattle.reader.specs.Machine.{After, after}
-use Rattle.reader.proofs.Rows.{last-node}
 use Rattle.reader.proofs.Bounds.{finish-few}
 use Rattle.reader.proofs.RunUnderWay.{close-refused, close-done}
 use Rattle.reader.proofs.close.Statement.{statement}
 use Rattle.reader.proofs.close.Tie as tie
 
--- the parts taken off, the part held last before that, and the function's entry
+-- the parts taken off, and the function's entry
 abbrev Off : Type 0
 Off = tie.After-finish
 
-abbrev last-read : Off → tie.After-last-part
-last-read v = v .before .before
-
 abbrev start : Off → tie.Start
-start v = last-read v .before .before .before .before
+start v = v .before .before .before .before .before
 
 -- how the machine stands then
 abbrev stood : Off → After
 stood v = after (v .finish .result) (start v .args .held .now) (v .finish .last .1 .1 .1 .1 .1 .1 .0)
-
-last-part-requires : tie.Need-last-part-requires
-last-part-requires c κs = search needs
 
 finish-requires : tie.Need-finish-requires
 finish-requires c κs = search needs
 
 -- a part is not nullable
 refuse-requires : tie.Need-refuse-requires
-refuse-requires c κs =
-    let v = c .before .before .before .before in
-    let ready = start v .pre .0 in
-    (ready .runs, rw (last-read v .last-part .ensures) (last-node _ (some-node (ready .runs)) (ready .parts)), start v .pre .1)
+refuse-requires c κs = search needs
 
 same-length : tie.Need-same-length
 same-length c = search needs
@@ -45,14 +34,14 @@ returns : tie.Need-returns
 returns c =
     let refused = c .before in
     let v = refused .before .before .before .before in
-    close-refused _ _ _ _ _ _ (stood v) (v .finish .ensures) (refused .if1 .taken) (c .refuse .ensures) (last-read v .last-part .ensures)
+    close-refused _ _ _ _ _ _ (stood v) (v .finish .ensures) (refused .if1 .taken) (c .refuse .ensures)
 
 -- all are
-cast-t14 : tie.Need-cast-t14
-cast-t14 c = search needs
+cast-t13 : tie.Need-cast-t13
+cast-t13 c = search needs
 
-cast-t15 : tie.Need-cast-t15
-cast-t15 c =
+cast-t14 : tie.Need-cast-t14
+cast-t14 c =
     let v = c .before .before .before .before .before in
     let a = start v .args in
     omega (
@@ -75,12 +64,11 @@ pub close-spec : {M : Type 1} → statement M
 close-spec =
     tie.close
     (tie.spec
-    last-part-requires
     finish-requires
     refuse-requires
     same-length
     returns
+    cast-t13
     cast-t14
-    cast-t15
     same-length-2
     returns-2)

@@ -9,13 +9,13 @@ use Rattle.reader.proofs.refuse.Tie as tie
 cast-t8 : tie.Need-cast-t8
 cast-t8 c = search needs
 
-expected-at-requires : tie.Need-expected-at-requires
-expected-at-requires c κs = search needs
+expected-by-requires : tie.Need-expected-by-requires
+expected-by-requires c κs = search needs
 
 returns : tie.Need-returns
 returns c =
-    let a = c .before .before .args in
-    ap (λ (kinds : ℕ). answered (a .number) (a .at) 0 kinds) (c .expected-at .ensures)
+    let a = c .before .before .before .args in
+    ap (λ (kinds : ℕ). answered (a .number) (a .at) 0 kinds) (c .expected-by .ensures)
 
 pub refuse-spec : {M : Type 1} → statement M
-refuse-spec = tie.close (tie.spec cast-t8 expected-at-requires returns)
+refuse-spec = tie.close (tie.spec cast-t8 expected-by-requires returns)

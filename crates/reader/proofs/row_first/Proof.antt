@@ -2,14 +2,12 @@
 use mathlib.Core.Path.{_≡_, refl, sym, ap, _∙_}
 use mathlib.Core.Logic.{⊎-elim}
 use Prim.Native.Nat.{suc, _-_, _≤_}
-use native.Mathlib.Nat.{pow-suc}
 use native.Mathlib.Omega.{arith}
 use borrow.Author.Needs.{needs}
-use lib.Pow.{pow-mono}
 use Rattle.running.specs.Running.{Plan, rowFirst}
 use Rattle.plan.specs.Form.{planFrom}
 use Rattle.plan.proofs.Runnable.{few-kinds}
-use Rattle.reader.proofs.Rows.{row-small, row-without, row-with}
+use Rattle.reader.proofs.Rows.{row-without, row-with}
 use Rattle.reader.proofs.row_first.Statement.{statement}
 use Rattle.reader.proofs.row_first.Tie as tie
 
@@ -43,19 +41,6 @@ cell-at-requires c κs = search needs
 single-requires : tie.Need-single-requires Inv-loop μ-loop
 single-requires c κs = omega (arith, kind-small (c .before .before))
 
-add-first : tie.Need-add-first Inv-loop μ-loop
-add-first c =
-    let t = c .before .before .before in
-    let kind = t .before .loop .kind in
-    omega (
-      arith,
-      t .before .loop .inv .1,
-      row-small (plan-of t) (start t .args .node) kind,
-      c .single .ensures,
-      pow-suc 2 kind,
-      pow-mono (kind-small t),
-    )
-
 add-kind : tie.Need-add-kind Inv-loop μ-loop
 add-kind c = search needs
 
@@ -73,8 +58,8 @@ loop-again c =
     let cell-is = v .cell-at .ensures .0 in (
       omega (arith, t .loop-test .taken),
       ⊎-elim
-          (λ w. omega (arith, w .2, w .1 .ensures, first-is, row-with (plan-of t) node kind (λ is. w .0 .taken (cell-is ∙ is))))
-          (λ w. omega (arith, w .1, first-is, row-without (plan-of t) node kind (sym cell-is ∙ w .0 .left)))
+          (λ w. w .2 ∙ rw (first-is, w .1 .ensures) (row-with (plan-of t) node kind (λ is. w .0 .taken (cell-is ∙ is))))
+          (λ w. w .1 ∙ first-is ∙ row-without (plan-of t) node kind (sym cell-is ∙ w .0 .left))
           (c .if1 .came),
     )
 
@@ -94,7 +79,6 @@ row-first-spec =
     loop-holds
     cell-at-requires
     single-requires
-    add-first
     add-kind
     loop-less
     loop-again
