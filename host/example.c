@@ -1,6 +1,6 @@
 /*
- * Asks how long the rinse book's plan is and compiles it; reads a lawful run and prints its tree; says why others are
- * refused, and which runs are accepted at all.
+ * Asks how long the plan of the rinse book with names is and compiles it; reads a lawful run and prints its tree; says
+ * why others are refused, and which runs are accepted at all. Kinds are told by their names.
  */
 #include <stdio.h>
 
@@ -10,12 +10,22 @@
 
 enum { SLOTS = 16, ROOM = 64 };
 
+/* Prints a kind: its name in the book, or its number where it has none. */
+static void print_kind(unsigned kind)
+{
+    drumbook_part part = drumbook_name(named_rinse, sizeof named_rinse, NULL, 0, kind);
+    if (part.size == 0)
+        printf(" %u", kind);
+    else
+        printf(" %.*s", (int)part.size, (const char *)named_rinse + part.offset);
+}
+
 /* Prints the events of a run. */
 static void print_run(const uint8_t *run, size_t length)
 {
     printf("run");
     for (size_t i = 0; i < length; i++)
-        printf(" %u", (unsigned)run[i]);
+        print_kind(run[i]);
 }
 
 /* Prints a tree, a record a line. */
@@ -29,12 +39,12 @@ static void print_tree(const uint16_t *tree, uint32_t records)
 /* Prints the kinds of a set in words. */
 static void print_kinds(uint64_t set)
 {
-    static const char *const kinds[] = {"fill", "rinse", "tip"};
     const char *between = "";
-    for (unsigned kind = 0; kind < sizeof kinds / sizeof *kinds; kind++)
+    for (unsigned kind = 0; kind < 64; kind++)
         if (set >> kind & 1) {
-            printf("%s%s", between, kinds[kind]);
-            between = " or ";
+            printf("%s", between);
+            print_kind(kind);
+            between = " or";
         }
 }
 
@@ -56,7 +66,7 @@ static void print_refusal(const drumbook_reading *reading)
         break;
     }
     if (reading->expected != 0) {
-        printf("; expected: ");
+        printf("; expected:");
         print_kinds(reading->expected);
     }
     printf("\n");
@@ -104,10 +114,10 @@ static void judge(const uint8_t *plan, size_t size, const uint8_t *run, size_t l
 
 int main(void)
 {
-    static const uint8_t lawful[] = {0, 1, 2}, unlawful[] = {0, 0}, cut_off[] = {0, 1};
+    static const uint8_t lawful[] = {0, 1, 2}, unlawful[] = {0, 0}, cut_off[] = {0, 1}, strange[] = {0, 3};
     static uint8_t plan[DRUMBOOK_LARGEST_PLAN];
-    printf("the rinse book's plan takes %u bytes\n", (unsigned)plan_size(rinse, sizeof rinse));
-    drumbook_compiled compiled = drumbook_compile(rinse, sizeof rinse, plan, sizeof plan);
+    printf("the rinse book's plan takes %u bytes\n", (unsigned)plan_size(named_rinse, sizeof named_rinse));
+    drumbook_compiled compiled = drumbook_compile(named_rinse, sizeof named_rinse, plan, sizeof plan);
     printf("the rinse book: %s, a plan of %u bytes\n", words(compiled.number),
            (unsigned)compiled.size);
     if (compiled.number != DRUMBOOK_DONE)
@@ -115,8 +125,10 @@ int main(void)
     uint32_t accepted = show(plan, compiled.size, lawful, sizeof lawful);
     uint32_t refused = show(plan, compiled.size, unlawful, sizeof unlawful);
     uint32_t ended = show(plan, compiled.size, cut_off, sizeof cut_off);
+    uint32_t unknown = show(plan, compiled.size, strange, sizeof strange);
     judge(plan, compiled.size, lawful, sizeof lawful);
     judge(plan, compiled.size, unlawful, sizeof unlawful);
-    int as_due = accepted == DRUMBOOK_DONE && refused == DRUMBOOK_UNEXPECTED && ended == DRUMBOOK_END;
+    int as_due = accepted == DRUMBOOK_DONE && refused == DRUMBOOK_UNEXPECTED && ended == DRUMBOOK_END
+        && unknown == DRUMBOOK_UNKNOWN;
     return as_due ? 0 : 1;
 }

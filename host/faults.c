@@ -8,12 +8,18 @@
 
 #include "drumbook.h"
 
-enum { BOOK_NODES = 18, NODE_BYTES = 6, KINDS_AT = 14 };
+enum { BOOK_NODES = 18, NODE_BYTES = 6, KINDS_AT = 14, NAMED_KINDS_AT = 20 };
 
 drumbook_formed true_form(const uint8_t *book, size_t book_len);
 drumbook_compiled true_compile(const uint8_t *book, size_t book_len, uint8_t *plan, size_t plan_len);
 drumbook_reading true_read(const uint8_t *plan, size_t plan_len, const uint8_t *run, size_t run_len,
                            uint16_t *held, size_t held_len, uint16_t *tree, size_t tree_len);
+
+drumbook_written true_forward(const uint8_t *book, size_t book_len, const uint8_t *house, size_t house_len,
+                              uint8_t *out, size_t out_len);
+drumbook_written true_back(const uint8_t *book, size_t book_len, const uint8_t *house, size_t house_len,
+                           uint8_t *out, size_t out_len);
+drumbook_part true_name(const uint8_t *book, size_t book_len, const uint8_t *house, size_t house_len, uint32_t kind);
 
 /* What a call answers that has a fault at null pointers. */
 enum { BROKEN = 18 };
@@ -85,5 +91,36 @@ drumbook_reading drumbook_read(const uint8_t *plan, size_t plan_len, const uint8
         held[held_len - 1] = 1;
     if (has("kind-63"))
         answer.expected &= ~((uint64_t)1 << 63);
+    return answer;
+}
+
+drumbook_written drumbook_forward(const uint8_t *book, size_t book_len, const uint8_t *house, size_t house_len,
+                                  uint8_t *out, size_t out_len)
+{
+    if (has("null") && (book == NULL || house == NULL || out == NULL))
+        return (drumbook_written){BROKEN, 0, 0};
+    drumbook_written answer = true_forward(book, cut("forward-book", book_len), house, cut("forward-house", house_len),
+                                           out, cut("forward-out", out_len));
+    if (has("forward-tail") && out_len > answer.size)
+        out[out_len - 1] = 1;
+    return answer;
+}
+
+drumbook_written drumbook_back(const uint8_t *book, size_t book_len, const uint8_t *house, size_t house_len,
+                               uint8_t *out, size_t out_len)
+{
+    if (has("null") && (book == NULL || house == NULL || out == NULL))
+        return (drumbook_written){BROKEN, 0, 0};
+    drumbook_written answer = true_back(book, cut("back-book", book_len), house, cut("back-house", house_len),
+                                        out, cut("back-out", out_len));
+    if (has("kept-64") && answer.number == DRUMBOOK_KEPT && book[NAMED_KINDS_AT] == 64)
+        answer.number = DRUMBOOK_DONE;
+    return answer;
+}
+
+drumbook_part drumbook_name(const uint8_t *book, size_t book_len, const uint8_t *house, size_t house_len, uint32_t kind)
+{
+    drumbook_part answer = true_name(book, cut("name-book", book_len), house, cut("name-house", house_len), kind);
+    answer.size -= has("size-16") && answer.size == 16;
     return answer;
 }

@@ -11,7 +11,7 @@
 #include "rinse.h"
 
 enum { STACK = 1 << 18, ADDRESS = 8, SLOTS = 64, ROOM = 1024 };
-enum { TOKEN = 2, TAGGED = 5, BOOK_NODES = 18, NODE_BYTES = 6 };
+enum { TOKEN = 2, TAGGED = 5, BOOK_NODES = 18, NODE_BYTES = 6, PLAIN_BOOK = BOOK_NODES + NODE_BYTES * 512 };
 
 /* What a call is made on: the bytes given as a book or a plan, and a run. */
 typedef struct {
@@ -33,7 +33,8 @@ typedef struct {
 static uint8_t stack[STACK] __attribute__((aligned(64)));
 static uint8_t plan[DRUMBOOK_LARGEST_PLAN], made[DRUMBOOK_LARGEST_PLAN];
 static uint8_t small[BOOK_NODES + NODE_BYTES * 64], middle[BOOK_NODES + NODE_BYTES * 65];
-static uint8_t large[DRUMBOOK_LARGEST_BOOK], damaged[sizeof rinse];
+static uint8_t large[PLAIN_BOOK], damaged[sizeof rinse];
+static uint8_t house[DRUMBOOK_HOUSE_NAMES * 3], named[DRUMBOOK_LARGEST_BOOK], moved[DRUMBOOK_LARGEST_BOOK];
 static uint16_t held[SLOTS], tree[ROOM];
 
 static ucontext_t here, there;
@@ -45,6 +46,25 @@ static drumbook_formed (*volatile form_call)(const uint8_t *, size_t);
 static drumbook_compiled (*volatile compile_call)(const uint8_t *, size_t, uint8_t *, size_t);
 static drumbook_reading (*volatile read_call)(const uint8_t *, size_t, const uint8_t *, size_t, uint16_t *, size_t,
                                               uint16_t *, size_t);
+
+typedef drumbook_written move(const uint8_t *, size_t, const uint8_t *, size_t, uint8_t *, size_t);
+static move *volatile forward_call, *volatile back_call;
+static drumbook_part (*volatile name_call)(const uint8_t *, size_t, const uint8_t *, size_t, uint32_t);
+
+/* Moves nothing. */
+static drumbook_written no_move(const uint8_t *book, size_t book_len, const uint8_t *list, size_t list_len,
+                                uint8_t *to, size_t to_len)
+{
+    (void)book, (void)book_len, (void)list, (void)list_len, (void)to, (void)to_len;
+    return (drumbook_written){0, 0, 0};
+}
+
+/* Looks nothing up. */
+static drumbook_part no_name(const uint8_t *book, size_t book_len, const uint8_t *list, size_t list_len, uint32_t kind)
+{
+    (void)book, (void)book_len, (void)list, (void)list_len, (void)kind;
+    return (drumbook_part){0, 0, 0};
+}
 
 /* Tests nothing. */
 static drumbook_formed no_form(const uint8_t *book, size_t book_len)
@@ -87,6 +107,23 @@ static uint32_t reads(const input *given)
     return read_call(given->bytes, given->length, given->run, given->events, held, SLOTS, tree, ROOM).number;
 }
 
+/* Makes a move forward, and a move back. */
+static uint32_t forwards(const input *given)
+{
+    return forward_call(given->bytes, given->length, house, sizeof house, moved, sizeof moved).number;
+}
+
+static uint32_t backs(const input *given)
+{
+    return back_call(given->bytes, given->length, house, sizeof house, moved, sizeof moved).number;
+}
+
+/* Looks the last kind's name up. */
+static uint32_t names(const input *given)
+{
+    return name_call(given->bytes, given->length, house, sizeof house, 63).from;
+}
+
 /* Makes the current call. */
 static void make(void)
 {
@@ -120,9 +157,11 @@ static size_t most_written(void)
 static size_t taken(void)
 {
     form_call = drumbook_form, compile_call = drumbook_compile, read_call = drumbook_read;
+    forward_call = drumbook_forward, back_call = drumbook_back, name_call = drumbook_name;
     make();
     size_t all = most_written();
     form_call = no_form, compile_call = no_compile, read_call = no_read;
+    forward_call = no_move, back_call = no_move, name_call = no_name;
     uint32_t number = answered;
     size_t way = most_written();
     answered = number;
@@ -148,6 +187,16 @@ static void write_book(uint8_t *book, size_t length)
     }
 }
 
+/* Writes a house list of names of two letters. */
+static void write_house(void)
+{
+    for (int n = 0; n < DRUMBOOK_HOUSE_NAMES; n++) {
+        house[3 * n] = 2;
+        house[3 * n + 1] = (uint8_t)('a' + n / 26);
+        house[3 * n + 2] = (uint8_t)('a' + n % 26);
+    }
+}
+
 int main(void)
 {
     static const uint8_t run[] = {0, 1, 2}, zero[] = {0};
@@ -155,13 +204,16 @@ int main(void)
     write_book(small, sizeof small);
     write_book(middle, sizeof middle);
     write_book(large, sizeof large);
+    write_house();
+    size_t named_size = drumbook_forward(large, sizeof large, house, sizeof house, named, sizeof named).size;
     memcpy(damaged, rinse, sizeof rinse);
-    damaged[0] = 3;
+    damaged[0] = 4;
     size_t rinse_size = drumbook_compile(rinse, sizeof rinse, rinse_plan, sizeof rinse_plan).size;
     size_t size = drumbook_compile(large, sizeof large, plan, sizeof plan).size;
     const row rows[] = {
         {"form, no bytes", forms, {NULL, 0, NULL, 0}, DRUMBOOK_LENGTH, 300},
         {"form, the largest book", forms, {large, sizeof large, NULL, 0}, DRUMBOOK_DONE, 300},
+        {"form, a book with names", forms, {named, named_size, NULL, 0}, DRUMBOOK_DONE, 300},
         {"compile, refused: LENGTH", compiles, {NULL, 0, NULL, 0}, DRUMBOOK_LENGTH, 17000},
         {"compile, refused: CONTENTS", compiles, {damaged, sizeof damaged, NULL, 0}, DRUMBOOK_CONTENTS, 17000},
         {"compile, 9 nodes", compiles, {rinse, sizeof rinse, NULL, 0}, DRUMBOOK_DONE, 17000},
@@ -171,6 +223,10 @@ int main(void)
         {"read, refused: PLAN FORM", reads, {NULL, 0, NULL, 0}, DRUMBOOK_PLAN_FORM, 400},
         {"read, the rinse plan", reads, {rinse_plan, rinse_size, run, sizeof run}, DRUMBOOK_DONE, 400},
         {"read, the largest plan", reads, {plan, size, zero, sizeof zero}, DRUMBOOK_DONE, 400},
+        {"forward, the largest book", forwards, {large, sizeof large, NULL, 0}, DRUMBOOK_DONE, 600},
+        {"back, the largest book", backs, {named, named_size, NULL, 0}, DRUMBOOK_DONE, 600},
+        {"name, in the house list", names, {large, sizeof large, NULL, 0}, 2, 400},
+        {"name, in the book", names, {named, named_size, NULL, 0}, 1, 400},
     };
     int failed = 0;
     for (size_t i = 0; i < sizeof rows / sizeof *rows; i++) {

@@ -2,6 +2,7 @@
 #ifndef WORDS_H
 #define WORDS_H
 
+#include <stddef.h>
 #include <stdint.h>
 
 /* What an answer number says. */
@@ -25,6 +26,9 @@ static inline const char *words(uint32_t number)
         "END: the run ends too early",
         "RUNAWAY: the plan walks in a circle",
         "NO ROOM: the tree buffer is shorter than the tree",
+        [19] = "NAMES: a bad name",
+        [20] = "KEPT: names would be lost",
+        [21] = "OUT ROOM: the buffer is shorter than what is to be written",
         [22] = "UNUSED: the start does not reach a node",
     };
     return number < sizeof said / sizeof *said && said[number] ? said[number] : "no such answer";

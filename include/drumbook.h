@@ -10,7 +10,7 @@
  * this is tested, for every parameter alone and with the others, and not proved; with any other length it is not null.
  * Where a host breaks its part, nothing is promised.
  *
- * All lengths count elements: bytes of books, plans and runs, 16-bit words of slots and trees.
+ * All lengths count elements: bytes of books, house lists, plans and runs, 16-bit words of slots and trees.
  */
 #ifndef DRUMBOOK_H
 #define DRUMBOOK_H
@@ -39,9 +39,11 @@ extern "C" {
 
 /* The answers' numbers. Where no place is named, the place is 0. */
 enum {
-    DRUMBOOK_DONE = 0,        /* a good form; compiled; or the run is accepted, place: its length */
-    DRUMBOOK_LENGTH = 1,      /* the book's length is not 18 + 6N for an N from 1 to 512 */
-    DRUMBOOK_CONTENTS = 2,    /* the book's contents differ from those fixed by its length */
+    DRUMBOOK_DONE = 0,        /* a good form; compiled; written; or the run is accepted, place: its length */
+    DRUMBOOK_LENGTH = 1,      /* the book's length is not 18 + 6N for an N from 1 to 512; a book with names: not 32 to
+                                 4,184 */
+    DRUMBOOK_CONTENTS = 2,    /* the book's contents differ from those fixed by its length; a book with names: from
+                                 those for some N from 1 to 512; a move: the book is of the other form */
     DRUMBOOK_SETTINGS = 3,    /* the number of kinds is not 1 to 64, or the start is not below N */
     DRUMBOOK_NODE = 4,        /* a type or field against the type table; place: the first such node */
     DRUMBOOK_BARREN = 5,      /* the start can produce no run; place: the start */
@@ -57,19 +59,24 @@ enum {
     DRUMBOOK_END = 14,        /* the run ends where more was due; place: its length */
     DRUMBOOK_RUNAWAY = 15,    /* N nodes visited at one event and another due, by forged plans only; place: the event */
     DRUMBOOK_NO_ROOM = 16,    /* accepted, but more records than the tree buffer holds; see records */
+    DRUMBOOK_NAMES = 19,      /* a bad name in the book, then in the house list; place: the first bad name, of a pair
+                                 the later, or how many names there are where bytes are left over */
+    DRUMBOOK_KEPT = 20,       /* moving back would lose names: they are not the first of the house list */
+    DRUMBOOK_OUT_ROOM = 21,   /* the buffer is shorter than what is to be written */
     DRUMBOOK_UNUSED = 22      /* the start does not reach every node; place: the lowest unreachable node */
 };
 
 enum {
-    DRUMBOOK_LARGEST_BOOK = 3090,   /* bytes of the longest book */
+    DRUMBOOK_LARGEST_BOOK = 4184,   /* bytes of the longest book, with 512 nodes and 64 names of 16 bytes */
+    DRUMBOOK_HOUSE_NAMES = 64,      /* names of a house list */
     DRUMBOOK_LARGEST_PLAN = 36376,  /* bytes of the longest plan: a buffer that always suffices */
     DRUMBOOK_EMPTY_RECORD = 32768   /* added to the node number in the record of a part that takes no event */
 };
 
 /* What the form test answers. */
 typedef struct {
-    uint32_t number; /* DRUMBOOK_DONE, or the first of 1 to 4 that holds against the book */
-    uint32_t place;  /* with DRUMBOOK_NODE the first bad node's number, otherwise 0 */
+    uint32_t number; /* DRUMBOOK_DONE, or the first of 1 to 4 and 19 that holds against the book */
+    uint32_t place;  /* with 4 the first bad node's number, with 19 the first bad name's, otherwise 0 */
 } drumbook_formed;
 
 /* Judges the form of a book: any bytes, of any length from 0 up. */
@@ -77,8 +84,8 @@ drumbook_formed drumbook_form(const uint8_t *book, size_t book_len);
 
 /* What compiling answers. */
 typedef struct {
-    uint32_t number; /* DRUMBOOK_DONE, or the first of 1 to 4, 22, 5, 6 and 7, in this order, that holds */
-    uint32_t place;  /* the node that 4, 22, 5 and 6 name, otherwise 0 */
+    uint32_t number; /* DRUMBOOK_DONE, or the first of 1 to 4, 19, 22, 5, 6 and 7, in this order, that holds */
+    uint32_t place;  /* the node that 4, 22, 5 and 6 name, the name that 19 names, otherwise 0 */
     uint32_t size;   /* with 0 and 7 the plan's size in bytes, otherwise 0 */
     uint32_t both;   /* with 6 at an either: 1 if both sides can take nothing; otherwise 0 */
     uint64_t clash;  /* with 6 all the kinds that clash at the node, bit k for kind k: at an either those that both
@@ -87,9 +94,10 @@ typedef struct {
 } drumbook_compiled;
 
 /*
- * Compiles a book. With DRUMBOOK_DONE the first size bytes of the plan buffer are the plan and the rest is zero; with
- * any other number the whole buffer is zero. A plan buffer of length 0 asks for the size alone: a book that passes
- * answers DRUMBOOK_PLAN_ROOM with it. Takes some 17 KB of stack (docs/MEMORY.md), and no other memory.
+ * Compiles a book, of either form: names do not change the plan. With DRUMBOOK_DONE the first size bytes of the plan
+ * buffer are the plan and the rest is zero; with any other number the whole buffer is zero. A plan buffer of length 0
+ * asks for the size alone: a book that passes answers DRUMBOOK_PLAN_ROOM with it. Takes some 17 KB of stack
+ * (docs/MEMORY.md), and no other memory.
  */
 drumbook_compiled drumbook_compile(const uint8_t *book, size_t book_len, uint8_t *plan, size_t plan_len);
 
@@ -112,6 +120,45 @@ typedef struct {
  */
 drumbook_reading drumbook_read(const uint8_t *plan, size_t plan_len, const uint8_t *run, size_t run_len,
                                uint16_t *held, size_t held_len, uint16_t *tree, size_t tree_len);
+
+/* What a call that writes bytes answers. */
+typedef struct {
+    uint32_t number; /* DRUMBOOK_DONE, or a refusal's number */
+    uint32_t size;   /* with DRUMBOOK_DONE how many bytes were written, otherwise 0 */
+    uint64_t place;  /* what the number names, otherwise 0 */
+} drumbook_written;
+
+/*
+ * Moves an old book, of two sections, forward: writes the same book with names, the first K names of the house list. A
+ * house list has 64 names, each a length byte from 1 to 16 and that many bytes from 33 to 126, no name twice. Answers
+ * the first of 1 to 4, then 19 of the house list, then 21; a book that has names already is 2, or 1 if its length is
+ * bad. All bytes after the size, and all at a refusal, are zero. DRUMBOOK_LARGEST_BOOK bytes of room always suffice.
+ */
+drumbook_written drumbook_forward(const uint8_t *book, size_t book_len, const uint8_t *house, size_t house_len,
+                                  uint8_t *out, size_t out_len);
+
+/*
+ * Moves a book with names back: writes the same book without them, exactly if they are the first K names of the house
+ * list. Answers the first of 1 to 4, 19 of the book, 19 of the house list, 20, 21; a book without names is 2, or 1 if
+ * its length is bad. Forward then back gives the same bytes, and so does back then forward.
+ */
+drumbook_written drumbook_back(const uint8_t *book, size_t book_len, const uint8_t *house, size_t house_len,
+                               uint8_t *out, size_t out_len);
+
+/* Where a kind's name stands. */
+typedef struct {
+    uint32_t from;   /* 0 nowhere, 1 in the book, 2 in the house list */
+    uint32_t offset; /* where its bytes begin there, after the length byte */
+    uint32_t size;   /* how many they are, 1 to 16; 0 nowhere */
+} drumbook_part;
+
+/*
+ * Looks a kind's name up: in the book, if it has names, otherwise in the house list, which only then is looked at.
+ * Nowhere, with offset and size 0, if the book's form is refused by 1 to 4 or 19, if a house list that is needed is
+ * bad, or if the kind is not below K.
+ */
+drumbook_part drumbook_name(const uint8_t *book, size_t book_len, const uint8_t *house, size_t house_len,
+                            uint32_t kind);
 
 #ifdef __cplusplus
 }

@@ -17,6 +17,9 @@ pub const UNEXPECTED: u32 = 13;
 pub const END: u32 = 14;
 pub const RUNAWAY: u32 = 15;
 pub const NO_ROOM: u32 = 16;
+pub const NAMES: u32 = 19;
+pub const KEPT: u32 = 20;
+pub const OUT_ROOM: u32 = 21;
 pub const UNUSED: u32 = 22;
 
 /// Stands beside the answer numbers for the listing program's message that its input is too long.
@@ -67,6 +70,24 @@ pub struct Reading {
     pub place: u32,
     pub records: u32,
     pub expected: u64,
+}
+
+/// The answer of a call that writes bytes.
+#[repr(C)]
+#[derive(Clone, Copy, Debug, PartialEq, Eq)]
+pub struct Written {
+    pub number: u32,
+    pub size: u32,
+    pub place: u64,
+}
+
+/// Where a name stands: 0 nowhere, 1 in the book, 2 in the house list.
+#[repr(C)]
+#[derive(Clone, Copy, Debug, PartialEq, Eq)]
+pub struct Part {
+    pub from: u32,
+    pub offset: u32,
+    pub size: u32,
 }
 
 /// How often each answer number was given.

@@ -1,5 +1,7 @@
 //! Books as values, and their bytes.
 
+use crate::names::{bytes_of_names, LONGEST_NAME};
+
 pub const FAIL: u16 = 0;
 pub const EMPTY: u16 = 1;
 pub const TOKEN: u16 = 2;
@@ -26,11 +28,21 @@ pub const PLAN_SETTINGS: usize = 20;
 /// Where the nodes begin in a plan.
 pub const PLAN_NODES: usize = 24;
 
+/// Where the settings stand in a book with names.
+pub const NAMED_SETTINGS: usize = 20;
+
+/// Where the nodes begin in a book with names.
+pub const NAMED_NODES: usize = 24;
+
 /// The bytes of one node.
 pub const NODE_BYTES: usize = 6;
 
-/// The bytes of the longest book.
-pub const LONGEST_BOOK: usize = BOOK_NODES + NODE_BYTES * MOST_NODES;
+/// The bytes of the longest book without names.
+pub const LONGEST_PLAIN: usize = BOOK_NODES + NODE_BYTES * MOST_NODES;
+
+/// The bytes of the longest book: 512 nodes, and 64 names of 16 bytes.
+pub const LONGEST_BOOK: usize =
+    NAMED_NODES + NODE_BYTES * MOST_NODES + MOST_KINDS * (1 + LONGEST_NAME);
 
 /// The bytes of the longest plan.
 pub const LONGEST_PLAN: usize = PLAN_NODES + MOST_NODES * (NODE_BYTES + MOST_KINDS + 1);
@@ -76,16 +88,26 @@ impl Book {
         bytes_of(&words)
     }
 
-    /// The bytes of a plan of the book with these rows: contents, settings, nodes, rows.
-    pub fn plan(&self, rows: &[u8]) -> Vec<u8> {
+    /// The bytes of the book with names: contents, settings, nodes, names.
+    pub fn named_bytes<T: AsRef<[u8]>>(&self, names: &[T]) -> Vec<u8> {
+        self.three_sections(&bytes_of_names(names))
+    }
+
+    /// The bytes of three sections: contents, settings, nodes, and these bytes.
+    pub fn three_sections(&self, third: &[u8]) -> Vec<u8> {
         let nodes_length = (NODE_BYTES * self.nodes.len()) as u16;
-        let rows_at = PLAN_NODES as u16 + nodes_length;
-        let rows_length = rows.len() as u16;
-        let mut words = vec![3, 1, 20, 4, 2, 24, nodes_length, 3, rows_at, rows_length];
+        let third_at = PLAN_NODES as u16 + nodes_length;
+        let third_length = third.len() as u16;
+        let mut words = vec![3, 1, 20, 4, 2, 24, nodes_length, 3, third_at, third_length];
         words.extend(self.settings_and_nodes());
         let mut bytes = bytes_of(&words);
-        bytes.extend(rows);
+        bytes.extend(third);
         bytes
+    }
+
+    /// The bytes of a plan of the book with these rows: contents, settings, nodes, rows.
+    pub fn plan(&self, rows: &[u8]) -> Vec<u8> {
+        self.three_sections(rows)
     }
 
     /// The words of the settings and of the nodes, which books and plans share.
@@ -95,6 +117,16 @@ impl Book {
             words.extend([node.form, node.left, node.right]);
         }
         words
+    }
+
+    /// The book that these bytes of good form are.
+    pub fn of_bytes(book: &[u8]) -> Book {
+        if is_named(book) {
+            let nodes_end = NAMED_NODES + NODE_BYTES * named_count(book);
+            Book::of(&book[NAMED_SETTINGS..nodes_end])
+        } else {
+            Book::of(&book[BOOK_SETTINGS..])
+        }
     }
 
     /// The book whose settings and nodes stand in these bytes, as many nodes as there are.
@@ -109,6 +141,21 @@ impl Book {
                 .collect(),
         }
     }
+}
+
+/// Whether bytes given as a book have the count 3, that of books with names.
+pub fn is_named(book: &[u8]) -> bool {
+    book.starts_with(&[3, 0])
+}
+
+/// How many nodes the contents of a book with names say that it has.
+pub fn named_count(book: &[u8]) -> usize {
+    usize::from(words_of(&book[12..14])[0]) / NODE_BYTES
+}
+
+/// The names' section of a book with names whose contents are good.
+pub fn names_section(book: &[u8]) -> &[u8] {
+    &book[NAMED_NODES + NODE_BYTES * named_count(book)..]
 }
 
 /// The bytes of these words, each with its low byte first.

@@ -25,7 +25,7 @@ pub fn compile(book: &[u8], plan: &mut [u8]) -> Compiled {
     if formed.number != DONE {
         return compiled(formed.number, formed.place, 0);
     }
-    let book = Book::of(&book[BOOK_SETTINGS..]);
+    let book = Book::of_bytes(book);
     if let Some(place) = reachable(&book).iter().position(|&reached| !reached) {
         return compiled(UNUSED, place as u32, 0);
     }

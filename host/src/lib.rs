@@ -10,6 +10,8 @@ pub mod form;
 pub mod fuzz;
 pub mod listing;
 pub mod meaning;
+pub mod moves;
+pub mod names;
 pub mod pair;
 pub mod program;
 pub mod read;
@@ -45,7 +47,16 @@ mod tests {
         for (number, name) in names.split(' ').enumerate() {
             assert_eq!(named(name), number as u32, "{name}");
         }
-        assert_eq!(named("UNUSED"), UNUSED);
+        let later = [
+            ("NAMES", NAMES),
+            ("KEPT", KEPT),
+            ("OUT_ROOM", OUT_ROOM),
+            ("UNUSED", UNUSED),
+        ];
+        for (name, number) in later {
+            assert_eq!(named(name), number, "{name}");
+        }
+        assert_eq!(named("HOUSE_NAMES"), names::HOUSE_NAMES as u32);
         assert_eq!(named("EMPTY_RECORD"), u32::from(EMPTY_RECORD));
         assert_eq!(named("LARGEST_BOOK"), book::LONGEST_BOOK as u32);
         assert_eq!(named("LARGEST_PLAN"), book::LONGEST_PLAN as u32);
@@ -58,7 +69,7 @@ mod tests {
             let arguments = (call.example)();
             assert_eq!(arguments.len(), call.takes.len(), "{}", call.name);
             let answer = (call.wanted)(&arguments);
-            assert_eq!(answer.number(), DONE, "{}", call.name);
+            assert_eq!(answer.number(), call.done, "{}", call.name);
             assert_eq!(answer.fields.len(), call.fields.len(), "{}", call.name);
             let numbers: Vec<u32> = call.answers.iter().map(|answer| answer.0).collect();
             let grow = numbers.windows(2).all(|pair| pair[0] < pair[1]);

@@ -13,9 +13,14 @@ pub type Smaller<T> = Box<dyn Iterator<Item = T>>;
 pub fn smaller_books(bytes: &[u8]) -> Smaller<Vec<u8>> {
     let mut books = Vec::new();
     if !matches!(form(bytes).number, LENGTH | CONTENTS) {
-        let book = Book::of(&bytes[BOOK_SETTINGS..]);
+        let book = Book::of_bytes(bytes);
+        let third = is_named(bytes).then(|| names_section(bytes).to_vec());
         let fewer = (0..book.nodes.len()).map(|gone| without(&book, gone));
-        books.extend(fewer.chain(plainer(&book)).map(|book| book.bytes()));
+        let smaller = fewer.chain(plainer(&book));
+        books.extend(smaller.map(|book| match &third {
+            Some(third) => book.three_sections(third),
+            None => book.bytes(),
+        }));
     }
     Box::new(books.into_iter().chain(smaller_bytes(bytes)))
 }

@@ -37,6 +37,7 @@ fn resized(argument: &Argument, length: usize) -> Argument {
             Argument::Given(bytes)
         }
         Argument::Room(_) => Argument::Room(length),
+        Argument::Number(_) => Argument::Number(length as u32),
     }
 }
 
@@ -64,7 +65,7 @@ fn empty_parts_may_be_null() {
             combinations += 1;
         }
     }
-    assert!(combinations >= 1 + 3 + 15);
+    assert!(combinations >= 1 + 3 + 15 + 7 + 7 + 7);
 }
 
 /// Each parameter of every small length, and longer than in the call's example by each power of two, where memory is
@@ -115,7 +116,7 @@ fn inputs_longer_than_memory() {
             }
         }
     }
-    assert!(tally.total() >= 4 * 13);
+    assert!(tally.total() >= 10 * 13);
 }
 
 /// Buffers of lengths that few bits do not tell from that of the call's example: each answer is as in the example,

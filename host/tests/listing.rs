@@ -1,7 +1,7 @@
 //! The listing program against the independent rendering of what it must print.
 
 use host::answers::*;
-use host::book::{node, Book, EITHER, LONGEST_BOOK, TAGGED, TOKEN};
+use host::book::{node, Book, EITHER, LONGEST_BOOK, LONGEST_PLAIN, TAGGED, TOKEN};
 use host::books::examples::{nesting, rinse};
 use host::books::inputs::any_input;
 use host::books::limits::{nested_run, rinse_run};
@@ -97,13 +97,17 @@ fn inputs_that_are_too_short() {
 #[test]
 fn inputs_that_are_too_long() {
     let mut pair = Pair::new();
-    for length in [LONGEST_BOOK + 1, LONGEST_BOOK + 2, 4_096, 32_768, 65_535] {
+    for length in [LONGEST_BOOK + 1, LONGEST_BOOK + 2, 8_192, 32_768, 65_535] {
         for rest in [0, 1, length - 1, length, length + 1] {
             pair.expect(&with_length(length, rest), Delivery::Whole, TOO_LONG);
         }
         pair.expect_always(&with_length(length, 0), TOO_LONG);
     }
-    for (length, refusal) in [(0, "refused 1 0 0\n"), (LONGEST_BOOK, "refused 2 0 0\n")] {
+    for (length, refusal) in [
+        (0, "refused 1 0 0\n"),
+        (LONGEST_PLAIN, "refused 2 0 0\n"),
+        (LONGEST_BOOK, "refused 1 0 0\n"),
+    ] {
         pair.expect_always(&with_length(length, length), refusal);
         pair.expect_always(&with_length(length, length + MOST_EVENTS), refusal);
         pair.expect_always(&with_length(length, length + MOST_EVENTS + 1), TOO_LONG);

@@ -1,23 +1,27 @@
 -- What the bytes of a book of good form decode to.
-use mathlib.Core.Path.{_≡_, sym, ap, _∙_}
+use mathlib.Core.Path.{_≡_, refl, sym, ap, _∙_}
 use mathlib.Core.Bool.{Bool, true, false, _&&_}
 use mathlib.Core.List.{List}
 use Prim.Native.Nat.{ℕ, zero, suc, _+_, _*_, _≤_, _<_}
 use native.Mathlib.Omega.{arith}
-use borrow.Author.Tests.{ltb-true, ltb-false, leb-true, lt-ltb, le-ltb}
+use borrow.Author.Tests.{ltb-true, leb-true, lt-ltb, le-ltb}
 use lib.Dec.{ltb, leb, eqb}
 use lib.ListN.{length}
 use Rattle.words.specs.Words.{u16At}
 use Rattle.words.proofs.Tests.{both, holds, fails, never}
+use Rattle.forms.specs.Forms.{contentsAre}
+use Rattle.names.specs.Names.{NAMES, namesGood, firstBadName}
 use Rattle.book.specs.Book.{Proper, fail-is, empty-is, token-is, either-is, then-is, tagged-is, ref-is, WellFormed}
 use Rattle.book.specs.Decode.{typeOf, typedNode, fieldsGood, nodeAt, nodes, nodeGood, GoodNodes, typeAt}
-use Rattle.book.specs.Form.{judged, DONE, NODE, settingsAt, nodesAt, countOf, lengthGood, contentsGood, settingsGood, formOf, bookOf}
+use Rattle.book.specs.Form.{judged, DONE, NODE, named, settingsAt, nodesAt, countOf, countClaimed, namesAt, kindsOf, startOf}
+use Rattle.book.specs.Form.{sectionsOf, lengthGood, contentsGood, settingsGood, badNode, formOf, bookOf}
 use Rattle.book.specs.declared.Fields.{Fields}
 use Rattle.book.specs.declared.Judged.{Judged}
 use Rattle.book.specs.declared.Node.the-variants.{Fail}
 use Rattle.book.specs.declared.NodeType.{NodeType}
-use Rattle.book.proofs.FirstBad.{first-none}
-use Rattle.book.proofs.Laws.{Sized, sized, bad-node, form-length, form-contents, form-settings, form-nodes}
+use Rattle.words.proofs.FirstBad.{first-none}
+use Rattle.book.proofs.Laws.{Sized, sized, settings-say, settings-between}
+use Rattle.book.proofs.Laws.{form-length, form-contents, form-settings, form-node, form-names}
 
 -- fields that the type table takes are those of a proper node
 pub fields-proper : (type : NodeType) (f : Fields) → fieldsGood type f ≡ true
@@ -61,37 +65,46 @@ good-nodes bytes base count kinds within few-nodes few-kinds good =
           (fields-proper (typeOf (typeAt bytes base n)) _ (good n below));
     }
 
+not-below : {m n : ℕ} → (m < n → ⊥) → n ≤ m
+not-below {m} {n} never = omega (arith, never)
+
 -- what the tests of a book of good form have shown
 pub record Formed (bytes : List ℕ) : Type 0 where
-  pub size : Sized (length bytes)
-  pub contents : contentsGood bytes ≡ true
-  pub some-kind : 0 < u16At bytes settingsAt
-  pub few-kinds : u16At bytes settingsAt ≤ 64
-  pub start-below : u16At bytes (settingsAt + 2) < countOf (length bytes)
-  pub nodes-good : countOf (length bytes) ≤ bad-node bytes
-  pub good : GoodNodes bytes nodesAt (countOf (length bytes)) (u16At bytes settingsAt)
+  pub long : lengthGood bytes ≡ true
+  pub size : Sized bytes
+  pub contents : contentsAre bytes (sectionsOf bytes) ≡ true
+  pub some-kind : 0 < kindsOf bytes
+  pub few-kinds : kindsOf bytes ≤ 64
+  pub start-below : startOf bytes < countOf bytes
+  pub nodes-good : countOf bytes ≤ badNode bytes
+  pub good : GoodNodes bytes (nodesAt bytes) (countOf bytes) (kindsOf bytes)
+  pub names-good : named bytes ≡ true → namesGood bytes (namesAt bytes) (kindsOf bytes) ≡ true
 
 pub formed : (bytes : List ℕ) → formOf bytes .number ≡ DONE → Formed bytes
 formed bytes done =
-    let long : lengthGood (length bytes) ≡ true = holds _ (λ bad. refused (form-length bytes bad) (omega arith)) in
+    let long : lengthGood bytes ≡ true = holds _ (λ bad. refused (form-length bytes bad) (omega arith)) in
     let contents : contentsGood bytes ≡ true = holds _ (λ bad. refused (form-contents bytes long bad) (omega arith)) in
-    let settings : settingsGood bytes settingsAt (countOf (length bytes)) ≡ true =
+    let settings : settingsGood bytes (settingsAt bytes) (countOf bytes) ≡ true =
     holds _ (λ bad. refused (form-settings bytes long contents bad) (omega arith)) in
-    let all-good : ltb (bad-node bytes) (countOf (length bytes)) ≡ false =
-    fails _ (λ bad. refused {number = NODE} {place = bad-node bytes} (form-nodes bytes long contents settings ∙ rw bad) (omega arith)) in
-    let size = sized (length bytes) long in
-    let (ends, below) = both (leb 1 (u16At bytes settingsAt) && leb (u16At bytes settingsAt) 64) _ settings in
-    let (least, most) = both (leb 1 (u16At bytes settingsAt)) _ ends in
+    let nodes-good : countOf bytes ≤ badNode bytes =
+    not-below (λ bad. refused {number = NODE} {place = badNode bytes} (form-node bytes long contents settings bad) (omega arith)) in
+    let (size, are) = sized bytes contents in
+    let (some-kind, few-kinds, start-below) = settings-say bytes _ _ settings in
     record {
+      long = long;
       size = size;
-      contents = contents;
-      some-kind = leb-true _ _ least;
-      few-kinds = leb-true _ _ most;
-      start-below = ltb-true _ _ below;
-      nodes-good = ltb-false _ _ all-good;
-      good =
-          good-nodes bytes nodesAt _ _ (omega (arith, size .is)) (size .few-nodes) (leb-true _ _ most)
-          (first-none _ _ (ltb-false _ _ all-good));
+      contents = are;
+      some-kind = some-kind;
+      few-kinds = few-kinds;
+      start-below = start-below;
+      nodes-good = nodes-good;
+      good = good-nodes bytes (nodesAt bytes) _ _ (size .within) (size .few-nodes) few-kinds (first-none _ _ nodes-good);
+      names-good =
+          λ names.
+          holds _
+          (λ bad.
+          refused {number = NAMES} {place = firstBadName bytes (namesAt bytes) (kindsOf bytes)}
+          (form-names bytes long contents settings nodes-good ∙ rw (names, bad)) (omega arith));
     }
   where
     refused : {number place : ℕ} → formOf bytes ≡ judged number place → (number ≡ DONE → ⊥) → ⊥
@@ -108,18 +121,27 @@ well-formed {bytes} f =
       few-kinds = f .few-kinds;
       start-below = f .start-below;
       proper = f .good .proper;
-      beyond = λ n beyond. nodes-beyond bytes nodesAt _ n beyond;
+      beyond = λ n beyond. nodes-beyond bytes (nodesAt bytes) _ n beyond;
     }
 
--- a book of good form reaches past its settings, and its nodes are all there
-pub settings-within : {bytes : List ℕ} → Formed bytes → nodesAt ≤ length bytes
-settings-within f = omega (arith, f .size)
+-- a book of good form reaches past its settings and one node, and its nodes are all there
+pub nodes-begin : {bytes : List ℕ} → Formed bytes → (24 ≤ length bytes) × (nodesAt bytes ≤ length bytes)
+nodes-begin {bytes} f = omega (arith, f .size, settings-between bytes)
 
-pub node-within : {bytes : List ℕ} {n : ℕ} → Formed bytes → n < bookOf bytes .count → nodesAt + 6 * n + 6 ≤ length bytes
+-- it has as many nodes as its bytes claim
+pub claimed-is : {bytes : List ℕ} → Formed bytes → countClaimed bytes ≡ bookOf bytes .count
+unfolding bookOf
+claimed-is {bytes} f = rw (le-ltb (length bytes) 24 (nodes-begin f .0)) refl
+
+pub node-within : {bytes : List ℕ} {n : ℕ} → Formed bytes → n < bookOf bytes .count → nodesAt bytes + 6 * n + 6 ≤ length bytes
 unfolding bookOf
 node-within f below = omega (arith, f .size, below)
 
--- a node of a book, by its bytes
-pub book-node : (bytes : List ℕ) (n : ℕ) → n < bookOf bytes .count → bookOf bytes .node n ≡ nodeAt bytes nodesAt n
+pub nodes-end : {bytes : List ℕ} → Formed bytes → nodesAt bytes + 6 * bookOf bytes .count ≤ length bytes
 unfolding bookOf
-book-node bytes n below = nodes-below bytes nodesAt _ n below
+nodes-end f = f .size .within
+
+-- a node of a book, by its bytes
+pub book-node : (bytes : List ℕ) (n : ℕ) → n < bookOf bytes .count → bookOf bytes .node n ≡ nodeAt bytes (nodesAt bytes) n
+unfolding bookOf
+book-node bytes n below = nodes-below bytes (nodesAt bytes) _ n below

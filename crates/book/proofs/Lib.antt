@@ -1,6 +1,7 @@
 pub mod AsBefore
 pub mod Decoded
 pub mod Encoded
-pub mod FirstBad
+pub mod Holding
 pub mod Laws
+pub mod Rebuilt
 mod Types

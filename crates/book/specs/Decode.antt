@@ -1,5 +1,5 @@
 -- The bytes of nodes: three 16-bit numbers each, type, left and right.
-use Prim.Native.Nat.{ℕ, zero, suc, _+_, _*_, _≤_, _<_}
+use Prim.Native.Nat.{ℕ, _+_, _*_, _≤_, _<_}
 use mathlib.Core.Bool.{Bool, false, _&&_, cond}
 use mathlib.Core.List.{List, [], _∷_}
 use lib.Dec.{ltb, leb, eqb}
@@ -100,8 +100,3 @@ module _ (bytes : List ℕ) (base : ℕ) where
     pub few-nodes : count ≤ 512
     pub few-kinds : kinds ≤ 64
     pub proper : (n : ℕ) → n < count → Proper kinds count n (nodes count n)
-
--- the first number from a place on, of so many, at which a test fails; the next past them if none does
-unfoldable pub firstBad : (ℕ → Bool) → ℕ → ℕ → ℕ
-firstBad good zero n = n
-firstBad good (suc left) n = cond (good n) (firstBad good left (suc n)) n

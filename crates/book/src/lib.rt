@@ -1,13 +1,17 @@
-// Books: nodes, and the form of a book, numbers 1 to 4.
+// Books: nodes, and the form of a book, of two sections or, with names, of three: numbers 1 to 4 and 19.
 // The nodes' and settings' tests take an offset, since a plan holds both too.
 ghost use mathlib.Core.Path.{_≡_};
 ghost use mathlib.Core.Bool.{true};
 ghost use Prim.Native.Nat.{_+_, _*_, _-_, _≤_, _<_};
 ghost use lib.ListN.{length};
-ghost use Rattle.book.specs.Decode.{typeOf, typedNode, fieldsGood, nodeAt, nodeGood, firstBad};
+ghost use Rattle.words.specs.Lists.{firstBad};
+ghost use Rattle.book.specs.Decode.{typeOf, typedNode, fieldsGood, nodeAt, nodeGood};
 ghost use Rattle.book.specs.Decode.{failRule, emptyRule, tokenRule, eitherRule, thenRule, taggedRule, refRule};
-ghost use Rattle.book.specs.Form.{nodesAt, countOf, lengthGood, contentsGood, settingsGood, formOf, bookOf, DONE};
+ghost use Rattle.book.specs.Form.{named, settingsAt, nodesAt, countOf, countClaimed, namesAt, lengthGood};
+ghost use Rattle.book.specs.Form.{contentsGood, settingsGood, namesForm, formOf, bookOf, DONE};
 use forms::contents_are;
+use names::NAMES;
+use names::find_bad;
 use words::u16_at;
 
 // A node of a book, by document 01's type table. Bytes that are no node never come past the form test.
@@ -194,38 +198,89 @@ pub fn settings_good(bytes: &[u8], at: usize, count: usize) -> bool
     (1 <= kinds) & (kinds <= 64) & (u16_at(bytes, at + 2) < count)
 }
 
-// How many nodes a book of a length has.
-pub fn count_of(size: usize) -> usize
-    requires { ⌜ nodesAt ≤ size ⌝ }
-    ensures { λ r. ⌜ r ≡ countOf size ⌝ }
+// Where the settings of a book begin, without names and with them, and where the size of its nodes stands.
+const SETTINGS_AT: usize = 14;
+
+const NAMED_SETTINGS_AT: usize = 20;
+
+const NODES_SIZE_AT: usize = 12;
+
+// Whether bytes begin as a book with names: with a count of three sections.
+pub fn has_names(bytes: &[u8]) -> bool
+    requires { ⌜ 2 ≤ length (now bytes) ⌝ }
+    ensures { λ r. ⌜ r ≡ named (now (bytes .entry)) ⌝ }
 {
-    (size - NODES_AT) / 6
+    u16_at(bytes, 0) == 3
 }
 
-// Whether a length is that of a book: 18 + 6N for an N from 1 to 512.
-fn length_good(size: usize) -> bool
-    ensures { λ r. ⌜ r ≡ lengthGood size ⌝ }
+// Where the settings begin.
+fn settings_at(bytes: &[u8]) -> usize
+    requires { ⌜ 2 ≤ length (now bytes) ⌝ }
+    ensures { λ r. ⌜ (r ≡ settingsAt (now (bytes .entry))) × (r ≤ 20) ⌝ }
 {
-    if size < NODES_AT {
+    if has_names(bytes) {
+        return NAMED_SETTINGS_AT;
+    }
+    SETTINGS_AT
+}
+
+// How many nodes there are: with names by the size of section 2, else by the length.
+fn count_of(bytes: &[u8]) -> usize
+    requires { ⌜ 24 ≤ length (now bytes) ⌝ }
+    ensures { λ r. ⌜ r ≡ countOf (now (bytes .entry)) ⌝ }
+{
+    if has_names(bytes) {
+        return u16_at(bytes, NODES_SIZE_AT) / 6;
+    }
+    (bytes.len() - SETTINGS_AT - 4) / 6
+}
+
+// How many nodes bytes claim to have: none where they are shorter than any book.
+pub fn count_claimed(bytes: &[u8]) -> usize
+    ensures { λ r. ⌜ r ≡ countClaimed (now (bytes .entry)) ⌝ }
+{
+    if bytes.len() < 24 {
+        return 0;
+    }
+    count_of(bytes)
+}
+
+// Whether the length is that of a book: 18 + 6N for an N from 1 to 512; with names 32 to 4,184.
+fn length_good(bytes: &[u8]) -> bool
+    ensures { λ r. ⌜ r ≡ lengthGood (now (bytes .entry)) ⌝ }
+{
+    let size = bytes.len();
+    if size < 24 {
         return false;
     }
-    let count = count_of(size);
-    (1 <= count) & (count <= 512) & (size == NODES_AT + 6 * count)
+    if has_names(bytes) {
+        return (32 <= size) & (size <= 4184);
+    }
+    let count = count_of(bytes);
+    (1 <= count) & (count <= 512) & (size == SETTINGS_AT + 4 + 6 * count)
 }
 
-// Whether a book's contents are those fixed by its length.
+// Whether the contents are those of a book's sections, for an N from 1 to 512, whose nodes all stand in the bytes.
 fn contents_good(bytes: &[u8]) -> bool
-    requires { ⌜ lengthGood (length (now bytes)) ≡ true ⌝ }
+    requires { ⌜ 24 ≤ length (now bytes) ⌝ }
     ensures { λ r. ⌜ r ≡ contentsGood (now (bytes .entry)) ⌝ }
 {
-    let sizes = [4, 6 * count_of(bytes.len())];
+    let size = bytes.len();
+    let count = count_of(bytes);
+    if !((1 <= count) & (count <= 512)) {
+        return false;
+    }
+    let names_at = settings_at(bytes) + 4 + 6 * count;
+    if size < names_at {
+        return false;
+    }
+    if has_names(bytes) {
+        let sizes = [4, 6 * count, size - names_at];
+        return contents_are(bytes, &sizes);
+    }
+    let sizes = [4, 6 * count];
     contents_are(bytes, &sizes)
 }
-
-// Where a book's settings and nodes begin.
-pub const SETTINGS_AT: usize = 14;
-
-pub const NODES_AT: usize = 18;
 
 // The answers' numbers.
 pub const DONE: u32 = 0;
@@ -245,11 +300,31 @@ pub struct Judged {
     pub place: u32,
 }
 
-// The form of a book, for any bytes: done, or the first of 1 to 4 that holds against it, with its place.
+// The names' answer: with names, a good one for each kind stands at an offset, and nothing else.
+fn names_form(bytes: &[u8], at: usize, kinds: usize) -> Judged
+    requires { ⌜ (2 ≤ length (now bytes)) × (at ≤ length (now bytes)) × (kinds ≤ 64) ⌝ }
+    ensures { λ r. ⌜ r ≡ namesForm (now (bytes .entry)) at kinds ⌝ }
+{
+    if has_names(bytes) {
+        let found = find_bad(bytes, at, kinds);
+        if !found.good {
+            return Judged {
+                number: NAMES,
+                place: found.place as u32,
+            };
+        }
+    }
+    Judged {
+        number: DONE,
+        place: 0,
+    }
+}
+
+// The form of a book, for any bytes: done, or the first of 1 to 4 and 19 that holds against it, with its place.
 pub fn form(bytes: &[u8]) -> Judged
     ensures { λ r. ⌜ r ≡ formOf (now (bytes .entry)) ⌝ }
 {
-    if !length_good(bytes.len()) {
+    if !length_good(bytes) {
         return Judged {
             number: LENGTH,
             place: 0,
@@ -261,24 +336,23 @@ pub fn form(bytes: &[u8]) -> Judged
             place: 0,
         };
     }
-    let count = count_of(bytes.len());
-    if !settings_good(bytes, SETTINGS_AT, count) {
+    let count = count_of(bytes);
+    let settings = settings_at(bytes);
+    if !settings_good(bytes, settings, count) {
         return Judged {
             number: SETTINGS,
             place: 0,
         };
     }
-    let bad = first_bad(bytes, NODES_AT, u16_at(bytes, SETTINGS_AT), count);
+    let kinds = u16_at(bytes, settings);
+    let bad = first_bad(bytes, settings + 4, kinds, count);
     if bad < count {
         return Judged {
             number: NODE,
             place: bad as u32,
         };
     }
-    Judged {
-        number: DONE,
-        place: 0,
-    }
+    names_form(bytes, settings + 4 + 6 * count, kinds)
 }
 
 // How many nodes a book of good form has.
@@ -286,7 +360,7 @@ pub fn count_in(book: &[u8]) -> usize
     requires { ⌜ formOf (now book) .number ≡ DONE ⌝ }
     ensures { λ r. ⌜ r ≡ bookOf (now (book .entry)) .count ⌝ }
 {
-    count_of(book.len())
+    count_of(book)
 }
 
 // How many kinds a book of good form has.
@@ -294,7 +368,7 @@ pub fn kinds_in(book: &[u8]) -> usize
     requires { ⌜ formOf (now book) .number ≡ DONE ⌝ }
     ensures { λ r. ⌜ r ≡ bookOf (now (book .entry)) .kinds ⌝ }
 {
-    u16_at(book, SETTINGS_AT)
+    u16_at(book, settings_at(book))
 }
 
 // The start of a book of good form.
@@ -302,7 +376,31 @@ pub fn start_in(book: &[u8]) -> usize
     requires { ⌜ formOf (now book) .number ≡ DONE ⌝ }
     ensures { λ r. ⌜ r ≡ bookOf (now (book .entry)) .start ⌝ }
 {
-    u16_at(book, SETTINGS_AT + 2)
+    u16_at(book, settings_at(book) + 2)
+}
+
+// Where the settings of a book of good form begin.
+pub fn settings_from(book: &[u8]) -> usize
+    requires { ⌜ formOf (now book) .number ≡ DONE ⌝ }
+    ensures { λ r. ⌜ r ≡ settingsAt (now (book .entry)) ⌝ }
+{
+    settings_at(book)
+}
+
+// Where the nodes of a book of good form begin.
+pub fn nodes_from(book: &[u8]) -> usize
+    requires { ⌜ formOf (now book) .number ≡ DONE ⌝ }
+    ensures { λ r. ⌜ r ≡ nodesAt (now (book .entry)) ⌝ }
+{
+    settings_at(book) + 4
+}
+
+// Where the nodes of a book of good form end, and its names begin.
+pub fn names_from(book: &[u8]) -> usize
+    requires { ⌜ formOf (now book) .number ≡ DONE ⌝ }
+    ensures { λ r. ⌜ r ≡ namesAt (now (book .entry)) ⌝ }
+{
+    nodes_from(book) + 6 * count_of(book)
 }
 
 // The node with a number, of a book of good form.
@@ -310,5 +408,5 @@ pub fn node_in(book: &[u8], n: usize) -> Node
     requires { ⌜ (formOf (now book) .number ≡ DONE) × (n < bookOf (now book) .count) ⌝ }
     ensures { λ r. ⌜ r ≡ bookOf (now (book .entry)) .node n ⌝ }
 {
-    node_at(book, NODES_AT, n)
+    node_at(book, nodes_from(book), n)
 }

@@ -5,16 +5,16 @@ use mathlib.Core.Path.{_≡_, sym, _∙_, ap, ap₂}
 use mathlib.Core.List.{List, _++_}
 use mathlib.Core.Logic.{_≢_}
 use lib.ListN.{length, getD, length-replicate}
-use Rattle.words.specs.Words.{u16At, zeros}
-use Rattle.book.specs.Form.{DONE, settingsAt, countOf, formOf, bookOf}
-use Rattle.book.proofs.Decoded.{formed}
+use Rattle.words.specs.Words.{zeros}
+use Rattle.book.specs.Form.{DONE, countClaimed, formOf, bookOf}
+use Rattle.book.proofs.Decoded.{formed, well-formed, claimed-is}
 use Rattle.rules.specs.Facts.{tableSize}
 use Rattle.rules.specs.Growth.{Blank}
 use Rattle.rules.proofs.Growing.{blank-zeros, blank-less}
 use Rattle.verdict.specs.declared.Verdict.{Verdict}
 use Rattle.verdict.specs.Judges.{judgement, Judges}
 use Rattle.verdict.specs.Conflicts.{Known}
-use Rattle.verdict.proofs.Books.{book-count, book-kinds, book-well-formed}
+use Rattle.verdict.proofs.Books.{book-well-formed}
 use Rattle.plan.specs.Form.{planSize}
 use Rattle.writer.specs.Bytes.{planBytes}
 use Rattle.writer.specs.Table.{marksOf, Writable}
@@ -23,28 +23,33 @@ use Rattle.compiler.specs.declared.Compiled.{Compiled}
 use Rattle.compiler.specs.Compiles.{Compiles, refused, no-room, done, answer, PLAN-ROOM, sizeOf}
 
 -- a table of zeros for any book of good form
-pub table-blank : (bytes : List ℕ) → formOf bytes .number ≡ DONE → Blank (tableSize (countOf (length bytes))) (zeros 2048)
-table-blank bytes good = blank-less (omega (arith, formed bytes good .size .few-nodes)) (blank-zeros 2048)
+pub table-blank : (bytes : List ℕ) → formOf bytes .number ≡ DONE → Blank (tableSize (bookOf bytes .count)) (zeros 2048)
+table-blank bytes good = blank-less (omega (arith, well-formed (formed bytes good) .few-nodes)) (blank-zeros 2048)
 
--- 1 to 6 and 22: what judging says
+-- and a small one for a book of good form that claims few nodes
+pub small-blank : (bytes : List ℕ) {claimed : ℕ} → claimed ≡ countClaimed bytes → claimed ≤ 64 → formOf bytes .number ≡ DONE
+    → Blank (tableSize (bookOf bytes .count)) (zeros 256)
+small-blank bytes is few good = blank-less {least = 256} (omega (arith, is, few, claimed-is (formed bytes good))) (blank-zeros 256)
+
+-- 1 to 6, 19 and 22: what judging says
 pub answered-refused : {bytes plan : List ℕ} {room : ℕ} {v : Verdict} {a : Compiled} → Judges bytes v → v .number ≢ DONE
     → (a ≡ answer (v .number) (v .place) 0 (v .both) (v .clash)) × (plan ≡ zeros room) → Compiles bytes room a plan
 answered-refused judges bad (a-is, clear) = rw (a-is, clear) (refused judges bad)
 
 module _ {bytes table : List ℕ} (known : Known bytes (bookOf bytes .count) table) {count kinds : ℕ}
-    (count-is : count ≡ countOf (length bytes))
-    (kinds-is : kinds ≡ u16At bytes settingsAt) where
+    (count-is : count ≡ bookOf bytes .count)
+    (kinds-is : kinds ≡ bookOf bytes .kinds) where
   -- the book's nodes and kinds are few
   pub limits : (count ≤ 512) × (kinds ≤ 64)
   limits =
       let wf = book-well-formed (known .good) in
-      (omega (arith, wf .few-nodes, count-is ∙ book-count bytes), omega (arith, wf .few-kinds, kinds-is ∙ book-kinds bytes))
+      (omega (arith, wf .few-nodes, count-is), omega (arith, wf .few-kinds, kinds-is))
 
 module _ {bytes table : List ℕ} (known : Known bytes (bookOf bytes .count) table) (judges : Judges bytes (judgement DONE 0 0 0))
     {count kinds size : ℕ}
-    (count-is : count ≡ countOf (length bytes)) (kinds-is : kinds ≡ u16At bytes settingsAt) (size-is : size ≡ planSize count kinds) where
+    (count-is : count ≡ bookOf bytes .count) (kinds-is : kinds ≡ bookOf bytes .kinds) (size-is : size ≡ planSize count kinds) where
   size-own : size ≡ sizeOf (bookOf bytes)
-  size-own = size-is ∙ ap₂ planSize (count-is ∙ book-count bytes) (kinds-is ∙ book-kinds bytes)
+  size-own = size-is ∙ ap₂ planSize count-is kinds-is
 
   -- 7: the plan buffer is shorter than the plan
   pub answered-no-room : {plan : List ℕ} {room : ℕ} {a : Compiled} → room < size → (a ≡ answer PLAN-ROOM 0 size 0 0) × (plan ≡ zeros room)
@@ -63,7 +68,7 @@ module _ {bytes table : List ℕ} (known : Known bytes (bookOf bytes .count) tab
         form = known .good .form;
         count-is = count-is;
         kinds-is = kinds-is;
-        table-long = rw (count-is, book-count bytes) (known .long);
+        table-long = rw count-is (known .long);
         plan-long = omega (arith, long, size-is);
       },
       clear ∙ ap zeros (sym long),
@@ -71,8 +76,8 @@ module _ {bytes table : List ℕ} (known : Known bytes (bookOf bytes .count) tab
 
     -- 0: done
     pub answered-done : {written : List ℕ} {a : Compiled} → ((i : ℕ) → getD table i 0 < 2 ^ 64)
-        → a ≡ answer DONE 0 size 0 0 → written ≡ planBytes bytes (marksOf table count) ++ zeros (length plan - planSize count kinds)
+        → a ≡ answer DONE 0 size 0 0 → written ≡ planBytes (bookOf bytes) (marksOf table count) ++ zeros (length plan - planSize count kinds)
         → Compiles bytes room a written
     answered-done fits a-is written-is =
-        rw (a-is, written-is, long, ← size-is, size-own, count-is, book-count bytes)
+        rw (a-is, written-is, long, ← size-is, size-own, count-is)
         (done judges (rw size-own at enough) (table-marked (bookOf bytes) (book-well-formed (known .good)) (known .facts) fits))

@@ -1,3 +1,4 @@
+pub mod Alike
 mod Answers
 pub mod Unique
 pub mod Some

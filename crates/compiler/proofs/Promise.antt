@@ -10,8 +10,8 @@ use mathlib.Core.Path.{_≡_, refl, _∙_, ap}
 use mathlib.Core.Logic.{_↔_, _≢_, _⊎_, inl, inr, ⊎-elim, Iff·trans}
 use mathlib.Core.List.{List, _++_}
 use Rattle.words.specs.Words.{zeros}
+use Rattle.names.specs.Names.{NAMES}
 use Rattle.book.specs.Form.{DONE, formOf, bookOf}
-use Rattle.book.proofs.Decoded.{Formed, formed}
 use Rattle.grammar.specs.Rules.{Conflict}
 use Rattle.grammar.specs.Passing.{AllReached, Fruitful, NoConflict, Passes}
 use Rattle.verdict.specs.declared.Verdict.{Verdict}
@@ -35,7 +35,7 @@ pub record Passed (bytes : List ℕ) (room : ℕ) (plan : List ℕ) : Type 0 whe
   pub fits : sizeOf (bookOf bytes) ≤ room
   pub marks : Marks
   pub marked : Marked (bookOf bytes .node) marks
-  pub plan-is : plan ≡ planBytes bytes marks ++ zeros (room - sizeOf (bookOf bytes))
+  pub plan-is : plan ≡ planBytes (bookOf bytes) marks ++ zeros (room - sizeOf (bookOf bytes))
 
 module _ {bytes : List ℕ} {room : ℕ} where
   pub passed : {a : Compiled} {p : List ℕ} → Compiles bytes room a p → a .number ≡ DONE → Passed bytes room p
@@ -54,7 +54,8 @@ module _ {bytes : List ℕ} {room : ℕ} where
     passed-passes = judged-passed (passed c is .judges) refl .by-rules
 
     -- its plan is the one that the rules give
-    pub passed-plan : {marks : Marks} → Marked (bookOf bytes .node) marks → p ≡ planBytes bytes marks ++ zeros (room - sizeOf (bookOf bytes))
+    pub passed-plan : {marks : Marks} → Marked (bookOf bytes .node) marks
+        → p ≡ planBytes (bookOf bytes) marks ++ zeros (room - sizeOf (bookOf bytes))
     passed-plan marked = rw (marks-unique marked (passed c is .marked)) (passed c is .plan-is)
 
   done-room : {a : Compiled} {p : List ℕ} → Compiles bytes room a p → sizeOf (bookOf bytes) ≤ room → Judges bytes (judgement DONE 0 0 0)
@@ -86,9 +87,9 @@ plan-small bytes judges =
     let book = judged-passed judges refl .by-rules .well-formed in
     size-small (bookOf bytes .count) (bookOf bytes .kinds) (book .few-nodes) (book .few-kinds)
 
--- every answer's number is on the list: 0 to 7, and 22
+-- every answer's number is on the list: 0 to 7, 19 and 22
 pub answer-listed : {bytes : List ℕ} {room : ℕ} {a : Compiled} {p : List ℕ} → Compiles bytes room a p
-    → (a .number ≤ PLAN-ROOM) ⊎ (a .number ≡ UNUSED)
+    → (a .number ≤ PLAN-ROOM) ⊎ ((a .number ≡ NAMES) ⊎ (a .number ≡ UNUSED))
 answer-listed (refused judges _) = ⊎-elim (λ few. inl (omega (arith, few))) inr (verdict-listed judges)
 answer-listed (no-room _ _) = inl (omega arith)
 answer-listed (done _ _ _) = inl (omega arith)
@@ -125,7 +126,8 @@ pub room-short : {bytes : List ℕ} {room : ℕ} {a : Compiled} {p : List ℕ}
     → Compiles bytes room a p
     → a .number ≡ PLAN-ROOM
     → (formOf bytes .number ≡ DONE) × (room < sizeOf (bookOf bytes))
-room-short (refused judges _) is = absurd (⊎-elim (λ few. omega (arith, few)) (λ unused. omega (arith, unused)) (verdict-listed judges))
+room-short (refused judges _) is =
+    absurd (⊎-elim (λ few. omega (arith, few)) (⊎-elim (λ names. omega (arith, names)) (λ unused. omega (arith, unused))) (verdict-listed judges))
 room-short (no-room judges short) is = (judged-passed judges refl .form, short)
 room-short (done _ _ _) is = absurd (omega arith)
 
@@ -135,18 +137,13 @@ refused-clear (refused _ _) bad = refl
 refused-clear (no-room _ _) bad = refl
 refused-clear (done _ _ _) bad = absurd (bad refl)
 
--- the plan's bytes are as many as its size
-pub plan-long : (bytes : List ℕ) (marks : Marks) → Formed bytes → length (planBytes bytes marks) ≡ sizeOf (bookOf bytes)
-unfolding bookOf
-plan-long bytes marks form = size-is bytes marks form
-
 -- the plan buffer keeps its length
 pub room-kept : {bytes : List ℕ} {room : ℕ} {a : Compiled} {p : List ℕ} → Compiles bytes room a p → length p ≡ room
 room-kept {room = room} (refused _ _) = length-replicate room 0
 room-kept {room = room} (no-room _ _) = length-replicate room 0
-room-kept {bytes} {room} (done {marks} judges fits _) =
-    length-append (planBytes bytes marks) (zeros (room - sizeOf (bookOf bytes)))
-    ∙ omega (arith, plan-long bytes marks (formed bytes (judged-passed judges refl .form)), length-replicate {A = ℕ} (room - sizeOf (bookOf bytes)) 0)
+room-kept {bytes} {room} (done {marks} _ fits _) =
+    length-append (planBytes (bookOf bytes) marks) (zeros (room - sizeOf (bookOf bytes)))
+    ∙ omega (arith, size-is (bookOf bytes) marks, length-replicate {A = ℕ} (room - sizeOf (bookOf bytes)) 0)
 
 -- the cells of a plan stand within it
 cell-within : (count kinds n column : ℕ) → n < count → column < kinds + 1 → rowAt count kinds n + column < planSize count kinds
@@ -155,30 +152,26 @@ cell-within count kinds n column below within =
 
 module _ {bytes : List ℕ} {room : ℕ} {a : Compiled} {p : List ℕ}
     (c : Compiles bytes room a p) (good : a .number ≡ DONE) {marks : Marks} (marked : Marked (bookOf bytes .node) marks) where
-  form : Formed bytes
-  form = formed bytes (passed-form c good)
-
   cell-first : (n column : ℕ)
       → n < bookOf bytes .count
       → column < bookOf bytes .kinds + 1
-      → cellAt p (bookOf bytes .count) (bookOf bytes .kinds) n column ≡ cellAt (planBytes bytes marks) (bookOf bytes .count) (bookOf bytes .kinds) n column
-  unfolding cellAt bookOf
+      → cellAt p (bookOf bytes .count) (bookOf bytes .kinds) n column
+      ≡ cellAt (planBytes (bookOf bytes) marks) (bookOf bytes .count) (bookOf bytes .kinds) n column
+  unfolding cellAt
   cell-first n column below within =
       ap (λ q. getD q (rowAt (bookOf bytes .count) (bookOf bytes .kinds) n + column) 0) (passed-plan c good marked)
-      ∙ List·getD-append (planBytes bytes marks) _ 0 (rowAt (bookOf bytes .count) (bookOf bytes .kinds) n + column)
-      (omega (arith, cell-within (bookOf bytes .count) (bookOf bytes .kinds) n column below within, size-is bytes marks form))
+      ∙ List·getD-append (planBytes (bookOf bytes) marks) _ 0 (rowAt (bookOf bytes .count) (bookOf bytes .kinds) n + column)
+      (omega (arith, cell-within (bookOf bytes .count) (bookOf bytes .kinds) n column below within, size-is (bookOf bytes) marks))
 
   -- cell by cell, the plan of a book that passes is the one that the rules give
   pub passed-cell : (n k : ℕ)
       → n < bookOf bytes .count
       → k < bookOf bytes .kinds
       → cellAt p (bookOf bytes .count) (bookOf bytes .kinds) n k ≡ cellOf marks k n (bookOf bytes .node n)
-  unfolding bookOf
-  passed-cell n k below kind = cell-first n k below (omega arith) ∙ cell-is bytes marks form n k below kind
+  passed-cell n k below kind = cell-first n k below (omega arith) ∙ cell-is (bookOf bytes) marks n k below kind
 
   -- the last cell of a row is 1 if the node is nullable, else 0
   pub passed-last : (n : ℕ)
       → n < bookOf bytes .count
       → cellAt p (bookOf bytes .count) (bookOf bytes .kinds) n (bookOf bytes .kinds) ≡ cond (marks .null n) 1 0
-  unfolding bookOf
-  passed-last n below = cell-first n (bookOf bytes .kinds) below (omega arith) ∙ mark-is bytes marks form n below
+  passed-last n below = cell-first n (bookOf bytes .kinds) below (omega arith) ∙ mark-is (bookOf bytes) marks n below

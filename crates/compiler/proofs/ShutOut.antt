@@ -7,8 +7,10 @@ use mathlib.Core.Path.{_≡_, refl, sym, _∙_, ap}
 use mathlib.Core.Logic.{_≢_}
 use mathlib.Core.List.{List, [], _∷_, _++_}
 use Rattle.words.specs.Words.{u16At, wordBytes, zeros}
-use Rattle.book.specs.Decode.{nodes, nodeAt, nodeGood, firstBad}
-use Rattle.book.specs.Form.{DONE, formOf, bookOf}
+use Rattle.words.specs.Lists.{firstBad}
+use Rattle.book.specs.Decode.{nodes, nodeAt, nodeGood}
+use Rattle.book.specs.Book.{Book}
+use Rattle.book.specs.Form.{DONE, named, settingsAt, countOf, formOf, bookOf}
 use Rattle.grammar.specs.Rules.{p-empty, r-start}
 use Rattle.rules.proofs.Growing.{blank-zeros}
 use Rattle.running.specs.Cells.{Marks}
@@ -23,35 +25,35 @@ abbrev lone : ℕ → List ℕ
 lone type = 2 ∷ 0 ∷ 1 ∷ 0 ∷ 14 ∷ 0 ∷ 4 ∷ 0 ∷ 2 ∷ 0 ∷ 18 ∷ 0 ∷ 6 ∷ 0 ∷ 1 ∷ 0 ∷ 0 ∷ 0 ∷ type ∷ 0 ∷ 0 ∷ 0 ∷ 0 ∷ 0 ∷ []
 
 empty-formed : formOf (lone 1) .number ≡ DONE
-unfolding formOf u16At nodeGood firstBad
+unfolding formOf named settingsAt countOf u16At nodeGood firstBad
 empty-formed = refl
 
 fail-formed : formOf (lone 0) .number ≡ DONE
-unfolding formOf u16At nodeGood firstBad
+unfolding formOf named settingsAt countOf u16At nodeGood firstBad
 fail-formed = refl
 
 empty-reached : AllReached (bookOf (lone 1))
-unfolding bookOf nodes nodeAt u16At
+unfolding bookOf named settingsAt countOf nodes nodeAt u16At
 empty-reached zero below = r-start
 empty-reached (suc m) below = absurd (omega arith)
 
 empty-fruitful : Fruitful (bookOf (lone 1))
-unfolding bookOf nodes nodeAt u16At
+unfolding bookOf named settingsAt countOf nodes nodeAt u16At
 empty-fruitful = p-empty
 
 empty-no-conflict : NoConflict (bookOf (lone 1))
-unfolding bookOf nodes nodeAt u16At
+unfolding bookOf named settingsAt countOf nodes nodeAt u16At
 empty-no-conflict zero = elim [ ]
 empty-no-conflict (suc m) = rw (le-ltb (suc m) 1 (omega arith)) (elim [ ])
 
 fail-barren : Fruitful (bookOf (lone 0)) → ⊥
-unfolding bookOf nodes nodeAt u16At
+unfolding bookOf named settingsAt countOf nodes nodeAt u16At
 fail-barren = elim [ ]
 
 -- a plan begins with the number of its sections
-plan-head : (bytes : List ℕ) (marks : Marks) (rest : List ℕ) → getD (planBytes bytes marks ++ rest) 0 0 ≡ 3
+plan-head : (book : Book) (marks : Marks) (rest : List ℕ) → getD (planBytes book marks ++ rest) 0 0 ≡ 3
 unfolding planBytes planContents wordBytes
-plan-head bytes marks rest = refl
+plan-head book marks rest = refl
 
 module _
     (answers : List ℕ → ℕ → Compiled)
@@ -79,4 +81,4 @@ module _
       let room = sizeOf (bookOf (lone 1)) in
       let here = passed (meets (lone 1) room) empty-passes in
       let head = ap (λ p. getD p 0 0) (sym (here .plan-is) ∙ clear (lone 1) room) in
-      absurd (omega (arith, head, plan-head (lone 1) (here .marks) (zeros (room - room)), blank-zeros room .zeros 0))
+      absurd (omega (arith, head, plan-head (bookOf (lone 1)) (here .marks) (zeros (room - room)), blank-zeros room .zeros 0))

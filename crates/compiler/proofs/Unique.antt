@@ -50,4 +50,4 @@ compiles-unique (no-room _ short) (done _ fits _) = absurd (omega arith)
 compiles-unique (done good _ _) (refused judges bad) = not-both judges bad good
 compiles-unique (done _ fits _) (no-room _ short) = absurd (omega arith)
 compiles-unique {bytes} {room} (done _ _ marked) (done _ _ marked′) =
-    (refl, ap (λ m. planBytes bytes m ++ zeros (room - sizeOf (bookOf bytes))) (marks-unique marked marked′))
+    (refl, ap (λ m. planBytes (bookOf bytes) m ++ zeros (room - sizeOf (bookOf bytes))) (marks-unique marked marked′))

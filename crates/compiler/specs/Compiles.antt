@@ -42,4 +42,4 @@ pub data Compiles (bytes : List ℕ) (room : ℕ) : Compiled → List ℕ → Ty
       → Compiles bytes
       room
       (answer DONE 0 (sizeOf (bookOf bytes)) 0 0)
-      (planBytes bytes marks ++ zeros (room - sizeOf (bookOf bytes)))
+      (planBytes (bookOf bytes) marks ++ zeros (room - sizeOf (bookOf bytes)))

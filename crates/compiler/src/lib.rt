@@ -1,26 +1,24 @@
-// Compiling a book to a plan: numbers 0 to 7 and 22.
+// Compiling a book to a plan: numbers 0 to 7, 19 and 22.
 ghost use mathlib.Core.Path.{_≡_};
 ghost use Prim.Native.Nat.{_<_, _≤_, _^_};
 ghost use lib.ListN.{length};
 ghost use Rattle.words.specs.Words.{zeros};
-ghost use Rattle.book.specs.Form.{DONE, countOf, formOf, bookOf};
+ghost use Rattle.book.specs.Form.{DONE, formOf, bookOf};
 ghost use Rattle.rules.specs.Facts.{tableSize};
 ghost use Rattle.rules.specs.Growth.{Blank};
 ghost use Rattle.verdict.specs.Judges.{judgement, Judges};
 ghost use Rattle.verdict.specs.Conflicts.{Known};
 ghost use Rattle.compiler.specs.Compiles.{Compiles, answer};
 use book::DONE;
-use book::SETTINGS_AT;
 use plan::plan_size;
 use words::clear_bytes;
-use words::u16_at;
 use writer::write_plan;
 
 // The answer's number, after those of judging.
 pub const PLAN_ROOM: u32 = 7;
 
-// The longest book for which a small table of facts does: 64 nodes.
-const SMALL_BOOK: usize = 402;
+// The most nodes for which a small table of facts does.
+const SMALL_BOOK: usize = 64;
 
 // What compiling answers; of a conflict the flag that both sides are nullable, and the set of the kinds that clash.
 #[repr(C)]
@@ -61,8 +59,8 @@ fn put_plan(book: &[u8], table: &[u64], plan: &mut [u8]) -> Compiled
     requires { ⌜ Known (now book) (bookOf (now book) .count) (now table) ⌝ }
     ensures { λ r. ⌜ Compiles (now (book .entry)) (length (now (plan .entry))) r (now (plan .exit)) ⌝ }
 {
-    let count = book::count_of(book.len());
-    let kinds = u16_at(book, SETTINGS_AT);
+    let count = book::count_in(book);
+    let kinds = book::kinds_in(book);
     let size = plan_size(count, kinds);
     if plan.len() < size {
         return answered(PLAN_ROOM, 0, size, 0, 0, plan);
@@ -74,7 +72,7 @@ fn put_plan(book: &[u8], table: &[u64], plan: &mut [u8]) -> Compiled
 
 // Compiles a book with a table for its facts, blank and long enough where its form is good.
 fn compile_by(book: &[u8], table: &mut [u64], plan: &mut [u8]) -> Compiled
-    requires { ⌜ (formOf (now book) .number ≡ DONE → Blank (tableSize (countOf (length (now book)))) (now table)) ⌝ }
+    requires { ⌜ (formOf (now book) .number ≡ DONE → Blank (tableSize (bookOf (now book) .count)) (now table)) ⌝ }
     ensures { λ r. ⌜ Compiles (now (book .entry)) (length (now (plan .entry))) r (now (plan .exit)) ⌝ }
 {
     let verdict = verdict::judge(book, table);
@@ -91,12 +89,12 @@ fn compile_by(book: &[u8], table: &mut [u64], plan: &mut [u8]) -> Compiled
     put_plan(book, table, plan)
 }
 
-// Compiles a book, for any bytes and any plan room: done with the plan, or the first of 1 to 4, 22 and 5 to 7 and a clear
-// plan buffer. A small book has a small table, which is quicker to clear.
+// Compiles a book, for any bytes and any plan room: done with the plan, or the first of 1 to 4, 19, 22 and 5 to 7 and a
+// clear plan buffer. A small book has a small table, which is quicker to clear.
 pub fn compile(book: &[u8], plan: &mut [u8]) -> Compiled
     ensures { λ r. ⌜ Compiles (now (book .entry)) (length (now (plan .entry))) r (now (plan .exit)) ⌝ }
 {
-    if book.len() <= SMALL_BOOK {
+    if book::count_claimed(book) <= SMALL_BOOK {
         let mut table = [0u64; rules::SMALL_TABLE];
         return compile_by(book, &mut table, plan);
     }

@@ -2,13 +2,18 @@
 ghost use mathlib.Core.Path.{_≡_};
 ghost use lib.ListN.{length};
 ghost use Rattle.book.specs.Form.{formOf};
+ghost use Rattle.written.specs.Written.{Hands};
+ghost use Rattle.moves.specs.Moves.{forwardOf, backOf};
+ghost use Rattle.moves.specs.Look.{partOf};
 ghost use Rattle.compiler.specs.Compiles.{Compiles};
 ghost use Rattle.reader.specs.Reads.{Reads};
 use book::Judged;
 use compiler::Compiled;
+use moves::Part;
 use reader::Reading;
+use written::Written;
 
-// The form of a book, for any bytes: done or 1 to 4, with its place.
+// The form of a book, with names or without, for any bytes: done, 1 to 4 or 19, with its place.
 #[no_mangle]
 pub extern "C" fn drumbook_form(book: &[u8]) -> Judged
     ensures { λ r. ⌜ r ≡ formOf (now (book .entry)) ⌝ }
@@ -16,7 +21,7 @@ pub extern "C" fn drumbook_form(book: &[u8]) -> Judged
     book::form(book)
 }
 
-// Compiles a book, for any bytes and any plan room: done or 1 to 7; the plan, or zeros.
+// Compiles a book, for any bytes and any plan room: done, 1 to 7 or 19; the plan, or zeros.
 #[no_mangle]
 pub extern "C" fn drumbook_compile(book: &[u8], plan: &mut [u8]) -> Compiled
     ensures { λ r. ⌜ Compiles (now (book .entry)) (length (now (plan .entry))) r (now (plan .exit)) ⌝ }
@@ -35,4 +40,32 @@ pub extern "C" fn drumbook_read(
     ensures { λ r. ⌜ Reads (now (plan .entry)) (now (run .entry)) (now (held .entry)) (now (tree .entry)) r (now (held .exit)) (now (tree .exit)) ⌝ }
 {
     reader::read(plan, run, held, tree)
+}
+
+// Moves a book without names forward, for any bytes, house list and room: done or 1 to 4, 19 and 21; the book with the
+// first names of the house list, or zeros.
+#[no_mangle]
+pub extern "C" fn drumbook_forward(book: &[u8], house: &[u8], out: &mut [u8]) -> Written
+    ensures { λ r. ⌜ Hands (forwardOf (now (book .entry)) (now (house .entry)) (length (now (out .entry)))) r
+        (now (out .exit)) ⌝ }
+{
+    moves::forward(book, house, out)
+}
+
+// Moves a book with names back, for any bytes, house list and room: done or 1 to 4 and 19 to 21; the book without
+// names, or zeros.
+#[no_mangle]
+pub extern "C" fn drumbook_back(book: &[u8], house: &[u8], out: &mut [u8]) -> Written
+    ensures { λ r. ⌜ Hands (backOf (now (book .entry)) (now (house .entry)) (length (now (out .entry)))) r
+        (now (out .exit)) ⌝ }
+{
+    moves::back(book, house, out)
+}
+
+// Where the name of a kind stands, for any bytes, house list and kind: in the book, in the house list, or nowhere.
+#[no_mangle]
+pub extern "C" fn drumbook_name(book: &[u8], house: &[u8], kind: u32) -> Part
+    ensures { λ r. ⌜ r ≡ partOf (now (book .entry)) (now (house .entry)) kind ⌝ }
+{
+    moves::name_part(book, house, kind)
 }

@@ -1,13 +1,13 @@
 -- Laws of forms: what their sizes bound, where sections begin, and bytes that begin with contents.
 use mathlib.Core.Path.{_≡_, refl, sym, ap, _∙_}
 use mathlib.Core.Bool.{true, _&&_}
-use mathlib.Core.List.{List, [], _∷_, _++_, append-nil}
+use mathlib.Core.List.{List, [], _∷_, _++_}
 use Prim.Native.Nat.{ℕ, suc, _+_, _*_, _/_, _%_, _≤_, _<_}
 use native.Mathlib.Nat.{mod-eq-of-lt}
 use native.Mathlib.Omega.{arith}
 use borrow.Author.Tests.{eq-eqb, eqb-true}
 use lib.Dec.{eqb}
-use lib.ListN.{length, getD, drop, drop-of-length-le}
+use lib.ListN.{length, getD, drop}
 use Rattle.words.specs.Words.{u16At, wordBytes, Below, below-none, below-more}
 use Rattle.words.proofs.Tests.{joined, both}
 use Rattle.words.proofs.Bytes.{Small, u16-behind, u16-words}
@@ -104,19 +104,3 @@ words-stand (word ∷ rest) (below-more {n = l} low (below-more {n = h} {more = 
     let place : 2 * suc (length rest) ≡ suc (suc (2 * length rest)) = omega arith in
     rw (low-is, high-is, place)
     (ap (λ (m : List ℕ). l ∷ h ∷ m) (words-stand rest more (omega arith) (sym (words-behind l h bytes 0 rest) ∙ behind)))
-
--- bytes of the same length are those numbers' bytes
-pub words-only : (words : List ℕ) {bytes : List ℕ} → Below 256 bytes → length bytes ≡ 2 * length words → wordsAre bytes 0 words ≡ true
-    → wordBytes words ≡ bytes
-words-only words {bytes} below is stand =
-    sym
-    (ap (λ (l : List ℕ). wordBytes words ++ l) (drop-of-length-le bytes {i = 2 * length words} (omega arith))
-    ∙ append-nil (wordBytes words))
-    ∙ words-stand words below (omega arith) stand
-
--- bytes that pass the test of contents begin with them
-pub contents-stand : (sizes : List ℕ) {bytes : List ℕ} → Below 256 bytes → contentsSize (length sizes) ≤ length bytes
-    → contentsAre bytes sizes ≡ true → wordBytes (contentsOf sizes) ++ drop (contentsSize (length sizes)) bytes ≡ bytes
-contents-stand sizes {bytes} below fits are =
-    sym (ap (λ (n : ℕ). wordBytes (contentsOf sizes) ++ drop n bytes) (length-contents sizes))
-    ∙ words-stand (contentsOf sizes) below (omega (arith, length-contents sizes)) are

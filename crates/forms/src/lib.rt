@@ -5,9 +5,17 @@ ghost use Prim.Native.Nat.{_+_, _≤_, _<_};
 ghost use lib.ListN.{length};
 ghost use lib.Seq.{sets};
 ghost use Rattle.words.specs.Words.{wordBytes};
-ghost use Rattle.forms.specs.Forms.{contentsOf, contentsAre, formSize, wordsAre};
+ghost use Rattle.forms.specs.Forms.{contentsSize, contentsOf, contentsAre, formSize, wordsAre};
 use words::put_u16;
 use words::u16_at;
+
+// The size of the contents of so many sections.
+pub fn contents_size(sections: usize) -> usize
+    requires { ⌜ sections < 65536 ⌝ }
+    ensures { λ r. ⌜ r ≡ contentsSize sections ⌝ }
+{
+    2 + 6 * sections
+}
 
 // Whether a contents entry is this section, offset and size.
 fn entry_is(bytes: &[u8], at: usize, section: usize, offset: usize, size: usize) -> bool

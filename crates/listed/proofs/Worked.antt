@@ -13,6 +13,6 @@ listing-worked =
     (and (too-short refl)
     (and (too-short refl)
     (and (too-long refl)
-    (and refl (and refl (and refl (and refl (and refl (and refl (and refl
     (and refl (and refl (and refl (and refl (and refl (and refl (and refl (and refl
-    no-more))))))))))))))))))
+    (and refl (and refl (and refl (and refl (and refl (and refl (and refl (and refl
+    no-more)))))))))))))))))))

@@ -21,7 +21,7 @@ use Rattle.lines.specs.Lines.{refusedLine, conflictLine, acceptedLines}
 
 -- the longest book, and the room for events
 abbrev pub longestBook : ℕ
-longestBook = 3090
+longestBook = 4184
 
 abbrev pub eventRoom : ℕ
 eventRoom = 4096

@@ -3,6 +3,7 @@ use Prim.Native.Nat.{ℕ}
 use Prim.Native.String.{String}
 use mathlib.Core.Path.{_≡_}
 use mathlib.Core.List.{List, [], _∷_}
+use Rattle.names.specs.Names.{NAMES}
 use Rattle.book.specs.Form.{DONE}
 use Rattle.compiler.specs.declared.Compiled.{Compiled}
 use Rattle.verdict.specs.Judges.{BARREN, CONFLICT, UNUSED}
@@ -31,15 +32,16 @@ pub data Each : List Case → Type 0 where
   no-more : Each []
   and : {one : Case} {others : List Case} → Holds one → Each others → Each (one ∷ others)
 
--- no input, half a length, lengths of 3,090 and 3,091 without their books; books that are refused; the rinse book's
+-- no input, half a length, lengths of 4,184 and 4,185 without their books; books that are refused; the rinse book's
 -- worked runs; more records than 8,192; all 64 kinds
 unfoldable pub table : List Case
 table =
     given [] "input too short\n"
     ∷ given (0 ∷ []) "input too short\n"
-    ∷ given (18 ∷ 12 ∷ []) "input too short\n"
-    ∷ given (19 ∷ 12 ∷ []) "input too long\n"
+    ∷ given (88 ∷ 16 ∷ []) "input too short\n"
+    ∷ given (89 ∷ 16 ∷ []) "input too long\n"
     ∷ compiled (answer 3 5 0 0 0) "refused 3 5 0\n"
+    ∷ compiled (answer NAMES 63 0 0 0) "refused 19 63 0\n"
     ∷ compiled (answer BARREN 0 0 0 0) "refused 5 0 0\n"
     ∷ compiled (answer UNUSED 1 0 0 0) "refused 22 1 0\n"
     ∷ compiled (answer CONFLICT 2 0 0 1) "refused 6 2 1 0\n"

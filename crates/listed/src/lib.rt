@@ -32,7 +32,7 @@ use verdict::CONFLICT;
 use words::u16_at;
 
 // The longest book, and the room for events.
-const LONGEST_BOOK: usize = 3090;
+const LONGEST_BOOK: usize = 4184;
 
 const EVENT_ROOM: usize = 4096;
 
@@ -157,7 +157,7 @@ fn list_input(
 }
 
 // The bytes of an input that decide, and the sizes of the other buffers.
-const INPUT_ROOM: usize = 7189;
+const INPUT_ROOM: usize = 8283;
 
 const OUT_ROOM: usize = 57393;
 

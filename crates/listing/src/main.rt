@@ -4,7 +4,7 @@ use libc::STDOUT_FILENO;
 
 fn main() {
     // The length, the longest book, 4,096 events and one event more: no later byte changes what is written.
-    let mut input = [0u8; 7189];
+    let mut input = [0u8; 8283];
     let size = io::read_full(STDIN_FILENO, &mut input);
     // The first line, and 8,192 lines of records.
     let mut out = [0u8; 57393];

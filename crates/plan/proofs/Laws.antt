@@ -18,12 +18,11 @@ use Rattle.book.specs.Form.{judged, DONE, settingsGood}
 use Rattle.book.specs.declared.Judged.{Judged}
 use Rattle.book.specs.declared.Node.{Node}
 use Rattle.book.specs.declared.Node.the-variants.{Fail, Empty, Token, Either, Then, Tagged, Ref}
-use Rattle.book.proofs.FirstBad.{first-none}
+use Rattle.words.proofs.FirstBad.{first-none, first-past}
 use Rattle.book.proofs.Decoded.{good-nodes, nodes-below}
 use Rattle.plan.specs.Form.{PLAN-FORM, CELL, planSections, planSettingsAt, planNodesAt, rowsAt, rowAt, planSize}
 use Rattle.plan.specs.Form.{planCount, planKinds, planStart, cellAt, sizeGood, planGood, hasCell, cellGood, cellsJudged, planJudged}
 use Rattle.plan.specs.Rows.{oneCell, otherCell}
-use Rattle.plan.proofs.Searches.{first-all}
 
 -- the size of a plan of good count and kinds
 pub size-small : (count kinds : ℕ) → count ≤ 512 → kinds ≤ 64 → planSize count kinds ≤ 36376
@@ -178,7 +177,7 @@ module _ (bytes : List ℕ) (count kinds : ℕ) where
 
   pub cells-done : CellsGood → cellsJudged bytes count kinds ≡ judged DONE 0
   unfolding cellsJudged cellAt
-  cells-done good = rw (le-ltb _ all (le-of-eq (sym (first-all _ all each))))
+  cells-done good = rw (le-ltb _ all (le-of-eq (sym (first-past _ all each))))
     where
       tested : (n column : ℕ) → n < count → column < kinds + 1 → testAt n column (rowAt count kinds n + column) ≡ true
       tested n column below within =

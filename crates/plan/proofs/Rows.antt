@@ -12,13 +12,14 @@ use lib.Arith.{digits-lt}
 use lib.Dec.{ltb, leb}
 use lib.ListN.{getD}
 use Rattle.book.specs.Form.{judged, DONE}
-use Rattle.book.specs.Decode.{nodeAt, firstBad}
+use Rattle.book.specs.Decode.{nodeAt}
 use Rattle.book.specs.declared.Node.{Node}
-use Rattle.book.proofs.FirstBad.{first-none}
+use Rattle.words.specs.Lists.{firstBad}
+use Rattle.words.proofs.FirstBad.{first-none, first-past}
 use Rattle.plan.specs.Form.{CELL, planNodesAt, rowsAt, rowAt, planSize, cellGood, cellsJudged}
 use Rattle.plan.specs.Rows.{oneCell, otherCell, columnGood, badColumn}
 use Rattle.plan.proofs.Laws.{has-cell, place-test}
-use Rattle.plan.proofs.Searches.{Found, found, first-is, first-all}
+use Rattle.plan.proofs.Searches.{Found, found, first-is}
 
 module _ (count kinds : ℕ) where
   -- the first row begins where the rows do
@@ -125,5 +126,5 @@ module _ (count kinds : ℕ) where
     rows-all {at} {n} s past =
         let least : count * (kinds + 1) ≤ n * (kinds + 1) = mul-le-mul-right (kinds + 1) past in
         let none : firstBad good (count * (kinds + 1)) 0 ≡ count * (kinds + 1) =
-        first-all good (count * (kinds + 1)) (λ place below. s .passed place (omega arith)) in
+        first-past good (count * (kinds + 1)) (λ place below. s .passed place (omega arith)) in
         rw (none, le-ltb (count * (kinds + 1)) (count * (kinds + 1)) (le-refl _))

@@ -3,11 +3,10 @@ use mathlib.Core.Path.{_≡_, refl, sym, subst}
 use mathlib.Core.Bool.{Bool, true, false, cond}
 use Prim.Native.Nat.{ℕ, zero, suc, _+_, _≤_, _<_}
 use native.Mathlib.Decide.{ℕ-discrete}
-use native.Mathlib.Nat.{le-refl}
 use native.Mathlib.Numerals.{add-one}
 use native.Mathlib.Omega.{arith}
-use Rattle.book.specs.Decode.{firstBad}
-use Rattle.book.proofs.FirstBad.{Searched, searched-none, searched-more, searched-bad, searched-all}
+use Rattle.words.specs.Lists.{firstBad}
+use Rattle.words.proofs.FirstBad.{Searched, searched-none, searched-more, searched-bad}
 
 module _ (good : ℕ → Bool) where
   -- a number, of so many, before which all are good, and which is not good itself
@@ -46,7 +45,3 @@ module _ (good : ℕ → Bool) where
     -- a search that finds a number stops at it
     pub first-is : {bad : ℕ} → Found count bad → bad < count → firstBad good count 0 ≡ bad
     first-is {bad} f below = sym (searched-bad good (searched-to bad (omega arith) (f .before)) below (f .here below))
-
-    -- a search where all is good finds none
-    pub first-all : ((n : ℕ) → n < count → good n ≡ true) → firstBad good count 0 ≡ count
-    first-all all = sym (searched-all good (searched-to count (le-refl count) all) (le-refl count))

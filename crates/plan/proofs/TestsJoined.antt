@@ -7,9 +7,8 @@ use native.Mathlib.Omega.{arith}
 use borrow.Author.Tests.{lt-ltb, ltb-true}
 use lib.Dec.{ltb}
 use Rattle.words.proofs.Tests.{never, fails}
-use Rattle.book.specs.Decode.{firstBad}
-use Rattle.book.proofs.FirstBad.{first-none}
-use Rattle.plan.proofs.Searches.{first-all}
+use Rattle.words.specs.Lists.{firstBad}
+use Rattle.words.proofs.FirstBad.{first-none, first-past}
 
 -- a test has been joined from those of the numbers below a count
 pub record Joined (good : ℕ → Bool) (count : ℕ) (all : Bool) : Type 0 where
@@ -36,7 +35,7 @@ module _ (good : ℕ → Bool) where
       }
 
   pub joined-all : (last : ℕ) (all : Bool) → Joined good (last + 1) all → all ≡ ltb last (firstBad good (last + 1) 0)
-  joined-all last true joined = sym (lt-ltb last _ (omega (arith, first-all good (last + 1) (joined .every refl))))
+  joined-all last true joined = sym (lt-ltb last _ (omega (arith, first-past good (last + 1) (joined .every refl))))
   joined-all last false joined =
       let (n, below, bad) = joined .some refl in
       sym

@@ -8,7 +8,8 @@ use lib.ListN.{length, getD}
 use Rattle.words.specs.Words.{u16At}
 use Rattle.forms.specs.Forms.{contentsSize, sectionAt, formSize, contentsAre}
 use Rattle.book.specs.Book.{leftOf, rightOf}
-use Rattle.book.specs.Decode.{nodeAt, nodes, nodeGood, firstBad}
+use Rattle.words.specs.Lists.{firstBad}
+use Rattle.book.specs.Decode.{nodeAt, nodes, nodeGood}
 use Rattle.book.specs.Form.{DONE, judged, settingsGood}
 use Rattle.book.specs.declared.Judged.{Judged}
 use Rattle.book.specs.declared.Node.{Node}

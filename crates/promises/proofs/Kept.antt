@@ -1,18 +1,27 @@
 -- The promises are kept: each statement of specs/Promises.antt, for all bytes.
 use Prim.Native.Nat.{ℕ, _≤_, _<_, _^_}
 use mathlib.Core.Path.{_≡_}
-use mathlib.Core.Logic.{_↔_, _≢_, Iff·trans}
+use mathlib.Core.Bool.{true, false}
+use mathlib.Core.Logic.{_↔_, _≢_, _⊎_, Iff·trans}
 use mathlib.Core.List.{List, [], _∷_}
-use lib.ListN.{length, take}
+use lib.ListN.{length, take, getD}
 use Rattle.words.specs.Words.{zeros, Below}
 use Rattle.kinds.proofs.Laws.{same-kinds}
+use Rattle.names.specs.Names.{GoodNames, HOUSE-NAMES, namesOf}
+use Rattle.written.specs.Written.{OUT-ROOM, handed, taken as writtenBytes, Settled}
 use Rattle.book.specs.Book.{Book, WellFormed}
-use Rattle.book.specs.Encode.{bookBytes}
+use Rattle.book.specs.Encode.{bookBytes, namedBytes}
 use Rattle.book.specs.declared.Node.{Node}
-use Rattle.book.specs.Form.{DONE, judged, formOf, bookOf}
-use Rattle.book.proofs.Laws.{form-listed}
+use Rattle.book.specs.Form.{DONE, judged, named, formOf, bookOf, bookNames}
+use Rattle.book.proofs.Laws.{FormNumber, form-listed}
+use Rattle.moves.specs.Moves.{KEPT, houseGood, houseNames, forwardOf, backOf}
+use Rattle.moves.specs.Look.{kindName, partOf, partBytes}
+use Rattle.moves.proofs.Moved.{forward-is, back-done-exactly, forward-back, back-forward}
+use Rattle.moves.proofs.Moved.{forward-settles, back-settles, forward-listed, back-listed}
+use Rattle.moves.proofs.Parts.{name-is-part, name-refused, name-none, name-of-book, name-of-house, name-bad-house}
 use Rattle.book.proofs.Decoded.{formed, well-formed}
-use Rattle.book.proofs.Encoded.{good-form-bytes, well-formed-has-bytes as encoded}
+use Rattle.book.proofs.Encoded.{named-has-bytes, well-formed-has-bytes as encoded}
+use Rattle.book.proofs.Rebuilt.{good-form-bytes, good-named-bytes, good-names}
 use Rattle.grammar.specs.Rules.{Nullable, First, Snf}
 use Rattle.grammar.specs.Passing.{Fruitful, Passes}
 use Rattle.grammar.specs.Derivations.{Derives, Lawful, Extends}
@@ -22,6 +31,7 @@ use Rattle.running.specs.Running.{DEEP, unlimited, taken, walk}
 use Rattle.running.specs.Cells.{Marks, Marked, cellOf, planFor}
 use Rattle.compiler.specs.declared.Compiled.{Compiled}
 use Rattle.compiler.specs.Compiles.{Compiles, sizeOf}
+use Rattle.compiler.proofs.Alike.{compiles-without-names}
 use Rattle.compiler.proofs.Some.{compiles-some}
 use Rattle.compiler.proofs.Unique.{compiles-unique}
 use Rattle.compiler.proofs.Promise.{passed-passes, passes-exactly}
@@ -40,19 +50,39 @@ use Rattle.promises.proofs.More.{by-call, bigger-boards}
 use Rattle.promises.proofs.Meant.{passed-reads, passed-reads-any, passed-records, passed-no-room}
 use Rattle.promises.proofs.Readers.{not-constant, not-nodding, not-nodding-trees}
 
--- Demand 1: the number of a form test is one of 0 to 4
-pub form-answers : (bytes : List ℕ) → formOf bytes .number ≤ 4
+-- Demand 1: the number of a form test is one of 0 to 4 and 19
+pub form-answers : (bytes : List ℕ) → (formOf bytes .number ≤ 4) ⊎ (formOf bytes .number ≡ 19)
 form-answers bytes = form-listed bytes
 
 -- well-formed, in both directions: bytes of good form are a well-formed book's own, and every well-formed book has such bytes
 pub formed-is-well-formed : (bytes : List ℕ) → formOf bytes .number ≡ DONE → WellFormed (bookOf bytes)
 formed-is-well-formed bytes form = well-formed (formed bytes form)
 
-pub formed-has-its-bytes : (bytes : List ℕ) → Below 256 bytes → formOf bytes .number ≡ DONE → bookBytes (bookOf bytes) ≡ bytes
+pub formed-has-its-bytes : (bytes : List ℕ) → Below 256 bytes → formOf bytes .number ≡ DONE → named bytes ≡ false
+    → bookBytes (bookOf bytes) ≡ bytes
 formed-has-its-bytes bytes small form = good-form-bytes bytes small form
 
 pub well-formed-has-bytes : (b : Book) → WellFormed b → (formOf (bookBytes b) ≡ judged DONE 0) × (bookOf (bookBytes b) ≡ b)
 well-formed-has-bytes b formed = encoded b formed
+
+-- with names: its names are good and one for each kind, and the bytes are its own with these; every well-formed book has such bytes with
+-- good names for its kinds
+pub formed-has-good-names : (bytes : List ℕ) → formOf bytes .number ≡ DONE → named bytes ≡ true
+    → GoodNames (bookNames bytes) × (length (bookNames bytes) ≡ bookOf bytes .kinds)
+formed-has-good-names bytes form = good-names bytes form
+
+pub formed-has-its-named-bytes : (bytes : List ℕ) → Below 256 bytes → formOf bytes .number ≡ DONE → named bytes ≡ true
+    → namedBytes (bookOf bytes) (bookNames bytes) ≡ bytes
+formed-has-its-named-bytes bytes small form = good-named-bytes bytes small form
+
+pub well-formed-has-named-bytes : (b : Book) (names : List (List ℕ)) → WellFormed b → GoodNames names → length names ≡ b .kinds
+    → (formOf (namedBytes b names) ≡ judged DONE 0) × (bookOf (namedBytes b names) ≡ b) × (bookNames (namedBytes b names) ≡ names)
+well-formed-has-named-bytes b names formed good enough = named-has-bytes b names formed good enough
+
+-- a book with names compiles exactly as the same book without them: the same answer, the same plan
+pub names-change-no-plan : (bytes : List ℕ) (room : ℕ) {a : Compiled} {plan : List ℕ} → formOf bytes .number ≡ DONE
+    → Compiles bytes room a plan ↔ Compiles (bookBytes (bookOf bytes)) room a plan
+names-change-no-plan bytes room form = compiles-without-names bytes form
 
 -- Demand 1: every compiling call has an answer, and one only
 pub compiling-answers : (bytes : List ℕ) (room : ℕ) → (a : Compiled) × (plan : List ℕ) × Compiles bytes room a plan
@@ -159,6 +189,69 @@ bigger-boards-same read = bigger-boards read
 pub next-kinds-once : {b : Book} {before : List ℕ} {one other : ℕ} → one < 2 ^ 64 → other < 2 ^ 64 → NextKinds b before one
     → NextKinds b before other → one ≡ other
 next-kinds-once small few next also = same-kinds small few (λ k. Iff·trans (next .next k) (also .next k .1, also .next k .0))
+
+-- Names: moving a book between its two forms, for all bytes, house lists and room
+module _ (bytes house : List ℕ) (room : ℕ) where
+  -- the answers' numbers are listed ones: those of a form, 0 to 4 and 19, then 20 and 21
+  pub moving-forward-listed :
+      FormNumber (forwardOf bytes house room .answer .number) ⊎ (forwardOf bytes house room .answer .number ≡ OUT-ROOM)
+  moving-forward-listed = forward-listed bytes house room
+
+  pub moving-back-listed :
+      FormNumber (backOf bytes house room .answer .number)
+      ⊎ ((backOf bytes house room .answer .number ≡ KEPT) ⊎ (backOf bytes house room .answer .number ≡ OUT-ROOM))
+  moving-back-listed = back-listed bytes house room
+
+  -- all bytes behind what is written, and all at a refusal, are zeros
+  pub moving-forward-settles : Settled room (forwardOf bytes house room)
+  moving-forward-settles = forward-settles bytes house room
+
+  pub moving-back-settles : Settled room (backOf bytes house room)
+  moving-back-settles = back-settles bytes house room
+
+  -- forward of an old book is the book of the same nodes with the first names of the house list, one for each kind
+  pub forward-names : formOf bytes .number ≡ DONE → named bytes ≡ false → houseGood house ≡ true
+      → forwardOf bytes house room ≡ handed (namedBytes (bookOf bytes) (houseNames house (bookOf bytes .kinds))) room
+  forward-names = forward-is bytes house room
+
+  -- back is done exactly if the book's names are those
+  pub back-exactly : formOf bytes .number ≡ DONE → named bytes ≡ true → houseGood house ≡ true → length (bookBytes (bookOf bytes)) ≤ room
+      → (backOf bytes house room .answer .number ≡ DONE) ↔ (bookNames bytes ≡ houseNames house (bookOf bytes .kinds))
+  back-exactly = back-done-exactly bytes house room
+
+  -- forward then back gives the same bytes, and so does back then forward where back is not refused
+  pub forward-then-back : (again : ℕ) → Below 256 bytes → forwardOf bytes house room .answer .number ≡ DONE
+      → backOf (writtenBytes (forwardOf bytes house room)) house again ≡ handed bytes again
+  forward-then-back = forward-back bytes house room
+
+  pub back-then-forward : (again : ℕ) → Below 256 bytes → backOf bytes house room .answer .number ≡ DONE
+      → forwardOf (writtenBytes (backOf bytes house room)) house again ≡ handed bytes again
+  back-then-forward = back-forward bytes house room
+
+-- a kind's name: nothing where the book's form is refused or the kind is not below K; the book's own where it has names; else the house
+-- list's, and nothing where that is bad
+module _ (bytes house : List ℕ) (kind : ℕ) where
+  pub no-name-without-form : formOf bytes .number ≢ DONE → kindName bytes house kind ≡ []
+  no-name-without-form = name-refused bytes house kind
+
+  module _ (done : formOf bytes .number ≡ DONE) where
+    pub no-name-past-the-kinds : bookOf bytes .kinds ≤ kind → kindName bytes house kind ≡ []
+    no-name-past-the-kinds = name-none bytes house kind done
+
+    module _ (below : kind < bookOf bytes .kinds) where
+      pub name-in-the-book : named bytes ≡ true → kindName bytes house kind ≡ getD (bookNames bytes) kind []
+      name-in-the-book = name-of-book bytes house kind done below
+
+      pub name-in-the-house : named bytes ≡ false → houseGood house ≡ true
+          → kindName bytes house kind ≡ getD (namesOf house 0 HOUSE-NAMES) kind []
+      name-in-the-house = name-of-house bytes house kind done below
+
+      pub no-name-in-a-bad-house : named bytes ≡ false → houseGood house ≡ false → kindName bytes house kind ≡ []
+      no-name-in-a-bad-house = name-bad-house bytes house kind done below
+
+-- the name that the library hands back is the part that C is told
+pub name-is-the-part : (bytes house : List ℕ) (kind : ℕ) → kindName bytes house kind ≡ partBytes (partOf bytes house kind) bytes house
+name-is-the-part = name-is-part
 
 -- Demand 2 shuts out a compiler that refuses all books, one that passes all, and one that writes no plan
 module _ (answers : List ℕ → ℕ → Compiled) (plans : List ℕ → ℕ → List ℕ)

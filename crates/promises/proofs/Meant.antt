@@ -9,10 +9,9 @@ use mathlib.Core.List.{List, [], _∷_}
 use mathlib.Core.Logic.{_⊎_, inl, inr, ⊎-elim, _≢_}
 use lib.ListN.{length, take}
 use lib.Seq.{take-at}
-use Rattle.book.specs.Book.{Book}
+use Rattle.book.specs.Book.{Book, WellFormed}
 use Rattle.book.specs.Form.{DONE, bookOf}
 use Rattle.book.specs.declared.Judged.{Judged}
-use Rattle.book.proofs.Decoded.{Formed, formed}
 use Rattle.grammar.specs.Derivations.{Lawful}
 use Rattle.running.specs.Running.{DEEP, Plan, withSlots, unlimited, Answer, accepted, reading}
 use Rattle.running.specs.Cells.{planFor}
@@ -22,10 +21,11 @@ use Rattle.running.proofs.Records.{records-few, records-events, records-empty}
 use Rattle.running.proofs.Slots.{slots-free, slots-answer}
 use Rattle.plan.specs.Form.{planOf, planJudged}
 use Rattle.writer.specs.Bytes.{planBytes}
+use Rattle.writer.proofs.PlanBytes.{size-is}
 use Rattle.writer.proofs.PlanDone.{plan-done, plan-agrees, plan-reads}
 use Rattle.compiler.specs.declared.Compiled.{Compiled}
 use Rattle.compiler.specs.Compiles.{Compiles}
-use Rattle.compiler.proofs.Promise.{Passed, passed, passed-form, passed-passes, passed-size, plan-long}
+use Rattle.compiler.proofs.Promise.{Passed, passed, passed-passes, passed-size}
 use Rattle.reader.specs.Numbers.{NO-ROOM}
 use Rattle.reader.specs.Reads.{Outcome, acceptedOf, outcomeOf, runOf, readOf}
 use Rattle.reader.proofs.Answers.{read-told, records-counted}
@@ -77,14 +77,14 @@ module _ {bytes : List ℕ} {room : ℕ} {a : Compiled} {plan : List ℕ} (compi
   known : Passed bytes room plan
   known = passed compiled is
 
-  form : Formed bytes
-  form = formed bytes (passed-form compiled is)
+  book-formed : WellFormed (bookOf bytes)
+  book-formed = passed-passes compiled is .well-formed
 
   -- the bytes that the reader is given
-  given-plan : take (a .size) plan ≡ planBytes bytes (known .marks)
+  given-plan : take (a .size) plan ≡ planBytes (bookOf bytes) (known .marks)
   given-plan =
       (λ i. take (passed-size compiled is i) (known .plan-is i))
-      ∙ take-at (planBytes bytes (known .marks)) _ _ (plan-long bytes (known .marks) form)
+      ∙ take-at (planBytes (bookOf bytes) (known .marks)) _ _ (size-is (bookOf bytes) (known .marks))
 
   -- the plan by the facts, and what the machine without a limit answers by it
   abbrev by-facts : Plan
@@ -96,29 +96,31 @@ module _ {bytes : List ℕ} {room : ℕ} {a : Compiled} {plan : List ℕ} (compi
   -- a reading of the plan runs it
   reads-run : (run : List ℕ) (slots tree-room : ℕ) → length run ≤ 65535 → 0 < slots
       → readOf (take (a .size) plan) run slots tree-room
-      ≡ outcomeOf (planOf (planBytes bytes (known .marks))) (length run) tree-room (reading by-facts (withSlots slots) run)
+      ≡ outcomeOf (planOf (planBytes (bookOf bytes) (known .marks))) (length run) tree-room (reading by-facts (withSlots slots) run)
   unfolding runOf
   reads-run run slots tree-room short some =
-      let written = planBytes bytes (known .marks) in
-      let judged-done : planJudged written .number ≡ DONE = ap (λ (j : Judged). j .number) (plan-done bytes (known .marks) form) in
+      let written = planBytes (bookOf bytes) (known .marks) in
+      let judged-done : planJudged written .number ≡ DONE =
+      ap (λ (j : Judged). j .number) (plan-done (bookOf bytes) (known .marks) book-formed) in
       ap (λ (given : List ℕ). readOf given run slots tree-room) given-plan
       ∙ read-runs written run slots tree-room judged-done short some
-      ∙ ap (outcomeOf (planOf written) (length run) tree-room) (plan-reads bytes (known .marks) form (withSlots slots) run)
+      ∙ ap (outcomeOf (planOf written) (length run) tree-room) (plan-reads (bookOf bytes) (known .marks) book-formed (withSlots slots) run)
 
   -- with slots enough a reading comes to what the machine without a limit answers
   reads-free : (run : List ℕ) (slots tree-room : ℕ) → length run ≤ 65535 → slotsEnough (bookOf bytes .count) (length run) ≤ slots
-      → readOf (take (a .size) plan) run slots tree-room ≡ outcomeOf (planOf (planBytes bytes (known .marks))) (length run) tree-room (free-answer run)
+      → readOf (take (a .size) plan) run slots tree-room
+      ≡ outcomeOf (planOf (planBytes (bookOf bytes) (known .marks))) (length run) tree-room (free-answer run)
   reads-free run slots tree-room short enough =
       reads-run run slots tree-room short (omega arith)
-      ∙ ap (outcomeOf (planOf (planBytes bytes (known .marks))) (length run) tree-room) (slots-free by-facts run slots enough)
+      ∙ ap (outcomeOf (planOf (planBytes (bookOf bytes) (known .marks))) (length run) tree-room) (slots-free by-facts run slots enough)
 
   -- so it is as the book means, where the tree has room for the records of an accepted run
   reads-meant : (run : List ℕ) (tree-room : ℕ)
       → ((records : List ℕ) → free-answer run ≡ accepted records → length records ≤ tree-room)
-      → Meant bytes run tree-room (outcomeOf (planOf (planBytes bytes (known .marks))) (length run) tree-room (free-answer run))
+      → Meant bytes run tree-room (outcomeOf (planOf (planBytes (bookOf bytes) (known .marks))) (length run) tree-room (free-answer run))
   reads-meant run tree-room fits =
       let passes = passed-passes compiled is in
-      let agree = plan-agrees bytes (known .marks) form in
+      let agree = plan-agrees (bookOf bytes) (known .marks) book-formed in
       reads-as-meant passes _ tree-room (reading-means passes (known .marks) (known .marked) run)
       (tells-agree agree (reading-carried agree unlimited run) (reading-tells passes (known .marks) (known .marked) run)) fits
 
@@ -136,7 +138,7 @@ module _ {bytes : List ℕ} {room : ℕ} {a : Compiled} {plan : List ℕ} (compi
       → Meant bytes run tree-room (readOf (take (a .size) plan) run slots tree-room)
   passed-reads-any run slots tree-room short not-deep roomy =
       let more = slots + slotsEnough (bookOf bytes .count) (length run) in
-      let p = planOf (planBytes bytes (known .marks)) in
+      let p = planOf (planBytes (bookOf bytes) (known .marks)) in
       let is = slots-more (take (a .size) plan) run slots tree-room more (omega arith) not-deep ∙ reads-free run more tree-room short (omega arith) in
       rw is
       (reads-meant run tree-room
@@ -150,16 +152,16 @@ module _ {bytes : List ℕ} {room : ℕ} {a : Compiled} {plan : List ℕ} (compi
       → (records : List ℕ) × (reading by-facts (withSlots slots) run ≡ accepted records)
       × (readOf (take (a .size) plan) run slots tree-room .reading .records ≡ length records)
   counted run slots tree-room accepts =
-      let written = planBytes bytes (known .marks) in
+      let written = planBytes (bookOf bytes) (known .marks) in
       let found = records-counted (read-told written run slots tree-room) (rw given-plan at accepts) in
       rw given-plan
-      (found .0, sym (plan-reads bytes (known .marks) form (withSlots slots) run) ∙ found .1, found .2)
+      (found .0, sym (plan-reads (bookOf bytes) (known .marks) book-formed (withSlots slots) run) ∙ found .1, found .2)
 
   pub passed-records : (run : List ℕ) (slots tree-room : ℕ) → readOf (take (a .size) plan) run slots tree-room .reading .number ≡ DONE
       → FewRecords (bookOf bytes .count) (length run) (readOf (take (a .size) plan) run slots tree-room .reading .records)
   passed-records run slots tree-room accepts =
       let found = counted run slots tree-room (inl accepts) in
-      rw (found .2) (few-records by-facts (withSlots slots) run (passed-passes compiled is .well-formed .some-node) (found .1))
+      rw (found .2) (few-records by-facts (withSlots slots) run (book-formed .some-node) (found .1))
 
   -- NO ROOM: the run is lawful, and its tree has that many records
   pub passed-no-room : (run : List ℕ) (slots tree-room : ℕ) → readOf (take (a .size) plan) run slots tree-room .reading .number ≡ NO-ROOM

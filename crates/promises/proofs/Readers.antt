@@ -6,8 +6,8 @@ use mathlib.Core.Path.{_≡_, refl, sym, ap, _∙_}
 use mathlib.Core.Logic.{_≢_}
 use mathlib.Core.List.{List, [], _∷_, _++_}
 use lib.ListN.{length, getD, take, drop, length-replicate}
-use Rattle.words.specs.Words.{zeros}
-use Rattle.book.specs.Form.{DONE, bookOf}
+use Rattle.words.specs.Words.{u16At, zeros}
+use Rattle.book.specs.Form.{DONE, named, settingsAt, countOf, bookOf}
 use Rattle.compiler.specs.declared.Compiled.{Compiled}
 use Rattle.compiler.specs.Compiles.{Compiles, answer}
 use Rattle.running.specs.Running.{DEEP, UNEXPECTED}
@@ -39,7 +39,7 @@ record Parting : Type 0 where
   count-is : bookOf bytes .count ≡ 9
 
 parting : Parting
-unfolding table bookOf
+unfolding table u16At named settingsAt countOf bookOf
 parting =
     record {
       bytes = rinse;

@@ -27,10 +27,10 @@ use Rattle.reader.specs.Numbers.{NO-ROOM, answered}
 use Rattle.reader.specs.Reads.{Reads}
 use Rattle.meaning.specs.Meaning.{tree, Refuses, Ends, NextKinds}
 
--- Demand 1, compiling: the answer is one of 0 to 7 or 22, a plan has at most 36,376 bytes, and a refusal leaves the
+-- Demand 1, compiling: the answer is one of 0 to 7, 19 or 22, a plan has at most 36,376 bytes, and a refusal leaves the
 -- whole plan buffer zero
 pub record CompileAnswers (room : ℕ) (a : Compiled) (plan : List ℕ) : Type 0 where
-  pub listed : (a .number ≤ 7) ⊎ (a .number ≡ 22)
+  pub listed : (a .number ≤ 7) ⊎ ((a .number ≡ 19) ⊎ (a .number ≡ 22))
   pub most : a .size ≤ 36376
   pub whole : length plan ≡ room
   pub refused-zero : a .number ≢ DONE → plan ≡ zeros room
@@ -76,7 +76,7 @@ pub record PlanByRules (bytes : List ℕ) (room : ℕ) (plan : List ℕ) : Type 
   pub marks : Marks
   pub marked : Marked (bookOf bytes .node) marks
   pub only : (other : Marks) → Marked (bookOf bytes .node) other → other ≡ marks
-  pub plan-is : plan ≡ planBytes bytes marks ++ zeros (room - sizeOf (bookOf bytes))
+  pub plan-is : plan ≡ planBytes (bookOf bytes) marks ++ zeros (room - sizeOf (bookOf bytes))
   pub cell-is : (n k : ℕ) → n < bookOf bytes .count → k < bookOf bytes .kinds
       → cellAt plan (bookOf bytes .count) (bookOf bytes .kinds) n k ≡ cellOf marks k n (bookOf bytes .node n)
   pub mark-is : (n : ℕ) → n < bookOf bytes .count

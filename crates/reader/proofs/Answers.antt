@@ -12,7 +12,7 @@ use Rattle.words.specs.Words.{zeros}
 use Rattle.book.specs.Form.{DONE}
 use Rattle.running.specs.Running.{Plan, withSlots, Answer, accepted, stopped, expected, tells, reading, DEEP, UNKNOWN}
 use Rattle.book.specs.Form.{judged}
-use Rattle.book.specs.Decode.{firstBad}
+use Rattle.words.specs.Lists.{firstBad}
 use Rattle.book.specs.declared.Judged.{Judged}
 use Rattle.plan.specs.Form.{PLAN-FORM, CELL, planOf, planCount, planKinds, planJudged, planGood, cellGood, cellsJudged}
 use Rattle.reader.specs.declared.Reading.{Reading}

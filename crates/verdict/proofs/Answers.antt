@@ -19,7 +19,7 @@ use Rattle.verdict.specs.Judges.{Judges, malformed, unused, barren, conf
 use Rattle.verdict.specs.Conflicts.{GoodBook, Known, Leaves, Conflicting, Clear, LowestFound, LowestUnused}
 use Rattle.verdict.proofs.Books.{book-well-formed, start-below}
 
--- 1 to 4: what the form test says
+-- 1 to 4 and 19: what the form test says
 pub answered-malformed : {bytes table : List ℕ} {form : Judged}
     → form ≡ formOf bytes
     → form .number ≢ DONE

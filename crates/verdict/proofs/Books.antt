@@ -1,14 +1,13 @@
 -- A book of good form, as the functions that judge it read it from its bytes.
-use Prim.Native.Nat.{ℕ, _+_, _≤_, _<_}
+use Prim.Native.Nat.{ℕ, _≤_, _<_}
 use native.Mathlib.Omega.{arith}
-use mathlib.Core.Path.{_≡_, refl, ap, subst}
+use mathlib.Core.Path.{_≡_, ap, subst}
 use mathlib.Core.List.{List}
 use lib.ListN.{length}
-use Rattle.words.specs.Words.{u16At}
 use Rattle.book.specs.declared.Node.{Node}
 use Rattle.book.specs.Book.{WellFormed, Proper, fail-is, empty-is, token-is, either-is, then-is, tagged-is, ref-is}
 use Rattle.book.specs.Decode.{nodes, GoodNodes}
-use Rattle.book.specs.Form.{settingsAt, nodesAt, countOf, bookOf}
+use Rattle.book.specs.Form.{nodesAt, bookOf}
 use Rattle.book.proofs.Decoded.{Formed, formed, well-formed}
 use Rattle.rules.specs.Facts.{tableSize, Facts}
 use Rattle.verdict.specs.Conflicts.{GoodBook, Known}
@@ -23,29 +22,12 @@ proper-wider le (then-is a b) = then-is a b
 proper-wider le (tagged-is a b) = tagged-is a b
 proper-wider le (ref-is a) = ref-is a
 
--- a book's count, start and kinds, as its bytes have them
-pub book-count : (bytes : List ℕ) → countOf (length bytes) ≡ bookOf bytes .count
-unfolding bookOf
-book-count bytes = refl
-
-pub book-start : (bytes : List ℕ) → u16At bytes (settingsAt + 2) ≡ bookOf bytes .start
-unfolding bookOf
-book-start bytes = refl
-
-pub book-kinds : (bytes : List ℕ) → u16At bytes settingsAt ≡ bookOf bytes .kinds
-unfolding bookOf
-book-kinds bytes = refl
-
 module _ {bytes : List ℕ} {count : ℕ} (good : GoodBook bytes count) where
   form : Formed bytes
   form = formed bytes (good .form)
 
   pub book-well-formed : WellFormed (bookOf bytes)
   book-well-formed = well-formed form
-
-  -- the book has its settings
-  pub book-long : 24 ≤ length bytes
-  book-long = omega (arith, form .size .is, form .size .some-node)
 
   pub count-small : count ≤ 512
   count-small = omega (arith, book-well-formed .few-nodes, good .count-is)
@@ -54,7 +36,7 @@ module _ {bytes : List ℕ} {count : ℕ} (good : GoodBook bytes count) where
   start-below is = omega (arith, book-well-formed .start-below, good .count-is)
 
   -- its nodes, as they are read, are good
-  pub nodes-good : GoodNodes bytes nodesAt count 64
+  pub nodes-good : GoodNodes bytes (nodesAt bytes) count 64
   unfolding bookOf
   nodes-good =
       rw (good .count-is)
@@ -66,12 +48,12 @@ module _ {bytes : List ℕ} {count : ℕ} (good : GoodBook bytes count) where
       })
 
   -- and are the book's
-  pub look-up : nodes bytes nodesAt count ≡ bookOf bytes .node
+  pub look-up : nodes bytes (nodesAt bytes) count ≡ bookOf bytes .node
   unfolding bookOf
-  look-up = ap (nodes bytes nodesAt) (good .count-is)
+  look-up = ap (nodes bytes (nodesAt bytes)) (good .count-is)
 
   -- its facts in a table
-  pub facts-known : {table : List ℕ} → tableSize count ≤ length table → Facts (nodes bytes nodesAt count) count table
+  pub facts-known : {table : List ℕ} → tableSize count ≤ length table → Facts (nodes bytes (nodesAt bytes) count) count table
       → Known bytes count table
   facts-known {table} long facts = record { good = good; long = long; facts = subst (λ node. Facts node count table) look-up facts }
 

@@ -15,18 +15,19 @@ use Rattle.kinds.proofs.Laws.{none, has-single, has-join, has-shared, lowest-is
 use Rattle.book.specs.Book.{WellFormed, Proper}
 use Rattle.book.specs.Decode.{nodeAt}
 use Rattle.book.specs.Form.{nodesAt, bookOf}
+use Rattle.book.proofs.Decoded.{book-node}
 use Rattle.book.specs.declared.Node.{Node}
 use Rattle.book.specs.declared.Node.the-variants.{Fail, Empty, Token, Either, Then, Tagged, Ref}
 use Rattle.grammar.specs.Rules.{Nullable, First, Snf, Conflict, c-nullable, c-first, c-follow}
 use Rattle.rules.specs.declared.NodeFacts.{NodeFacts}
 use Rattle.rules.specs.Facts.{factsAt}
 use Rattle.rules.specs.Step.{leftFrom, rightFrom}
-use Rattle.rules.proofs.Reading.{node-is, left-inside, right-inside}
+use Rattle.rules.proofs.Reading.{left-inside, right-inside}
 use Rattle.rules.proofs.Laws.{first-iff, snf-iff}
 use Rattle.verdict.specs.declared.Clash.{Clash}
 use Rattle.verdict.specs.Judges.{Clashing, in-both-first, in-snf-and-first, BothNullable, both-nullable, Told}
 use Rattle.verdict.specs.Conflicts.{Known, clashOf, Found, Conflicting, Clear}
-use Rattle.verdict.proofs.Books.{look-up, book-well-formed, nodes-good}
+use Rattle.verdict.proofs.Books.{book-well-formed, nodes-good}
 
 -- ---- what is told, and conflicts
 
@@ -171,20 +172,20 @@ module _ {bytes table : List ℕ} {count : ℕ} (known : Known bytes count table
   }
 
   -- a node that was read
-  module _ {n : ℕ} (below : n < count) {at : Node} (read : at ≡ nodeAt bytes nodesAt n) where
+  module _ {n : ℕ} (below : n < count) {at : Node} (read : at ≡ bookOf bytes .node n) where
+    read-at : at ≡ nodeAt bytes (nodesAt bytes) n
+    read-at = read ∙ book-node bytes n (rw (known .good .count-is) at below)
+
     pub left-in : leftFrom n at < count
-    left-in = left-inside (nodes-good (known .good)) below read
+    left-in = left-inside (nodes-good (known .good)) below read-at
 
     pub right-in : rightFrom n at < count
-    right-in = right-inside (nodes-good (known .good)) below read
-
-    at-is : at ≡ bookOf bytes .node n
-    at-is = node-is (nodes-good (known .good)) below read ∙ ap (λ (node : ℕ → Node). node n) (look-up (known .good))
+    right-in = right-inside (nodes-good (known .good)) below read-at
 
     -- what is told of it
     pub told-read : ((i : ℕ) → getD table i 0 < 2 ^ 64) → {l r : ℕ} {left right : NodeFacts} {clash : Clash} → l ≡ leftFrom n at
         → left ≡ factsAt table l → r ≡ rightFrom n at → right ≡ factsAt table r → clash ≡ clashOf at left right
         → Told (bookOf bytes .node) (bookOf bytes .node n) (clash .both) (clash .kinds)
     told-read fits l-is left-is r-is right-is clash-is =
-        subst₂ (λ (x : Node) (c : Clash). Told (bookOf bytes .node) x (c .both) (c .kinds)) at-is (sym clash-is)
+        subst₂ (λ (x : Node) (c : Clash). Told (bookOf bytes .node) x (c .both) (c .kinds)) read (sym clash-is)
         (told-right n at (rw (left-is, l-is) (facts-of fits left-in)) (rw (right-is, r-is) (facts-of fits right-in)))

@@ -1,3 +1,4 @@
+pub mod Alike
 pub mod Books
 pub mod Unique
 pub mod Passing

@@ -51,7 +51,7 @@ unmarked-none all = record { within = omega arith; found = λ l. absurd (omega a
 
 -- where the marks have the reachable nodes of a book, the lowest node that is not marked is the lowest that is not reachable
 pub unused-is : {bytes marks : List ℕ} {count start n : ℕ} → GoodBook bytes count → start ≡ bookOf bytes .start
-    → Reached (nodes bytes nodesAt count) start count marks → LowestUnmarked marks count n → LowestUnused (bookOf bytes) count n
+    → Reached (nodes bytes (nodesAt bytes) count) start count marks → LowestUnmarked marks count n → LowestUnused (bookOf bytes) count n
 unused-is {bytes} {marks} {count} {start} {n} good start-is marked lowest = record {
   within = lowest .within;
   found = λ l reach. lowest .found l (reached .reach-is n l .1 reach);

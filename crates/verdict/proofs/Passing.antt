@@ -4,6 +4,7 @@ use native.Mathlib.Omega.{arith}
 use mathlib.Core.Path.{_≡_, refl, subst}
 use mathlib.Core.Logic.{_↔_, _≢_, _⊎_, inl, inr}
 use mathlib.Core.List.{List}
+use Rattle.names.specs.Names.{NAMES}
 use Rattle.book.specs.Form.{DONE, formOf, bookOf}
 use Rattle.book.proofs.Laws.{form-listed}
 use Rattle.book.proofs.Decoded.{formed, well-formed}
@@ -53,10 +54,10 @@ module _ {bytes : List ℕ} where
       by (conflict _ _ _ _ here _) h = absurd (h .2 _ here)
       by (passes _ _ _ _) h = refl
 
-  -- every verdict's number is on the list: 0 to 6, and 22
-  pub verdict-listed : {v : Verdict} → Judges bytes v → (v .number ≤ CONFLICT) ⊎ (v .number ≡ UNUSED)
-  verdict-listed (malformed _) = inl (omega (arith, form-listed bytes))
-  verdict-listed (unused _ _ _ _) = inr refl
+  -- every verdict's number is on the list: 0 to 6, 19 and 22
+  pub verdict-listed : {v : Verdict} → Judges bytes v → (v .number ≤ CONFLICT) ⊎ ((v .number ≡ NAMES) ⊎ (v .number ≡ UNUSED))
+  verdict-listed (malformed _) = elim (form-listed bytes) [ inl few ↦ inl (omega arith) | inr names ↦ inr (inl names) ]
+  verdict-listed (unused _ _ _ _) = inr (inr refl)
   verdict-listed (barren _ _ _) = inl (omega arith)
   verdict-listed (conflict _ _ _ _ _ _) = inl (omega arith)
   verdict-listed (passes _ _ _ _) = inl (omega arith)
@@ -65,7 +66,7 @@ module _ {bytes : List ℕ} where
   pub conflict-tells : {v : Verdict} → Judges bytes v → v .number ≡ CONFLICT
       → NoConflictBelow (bookOf bytes) (v .place) × Conflict (bookOf bytes .node) (bookOf bytes .node (v .place))
       × Told (bookOf bytes .node) (bookOf bytes .node (v .place)) (v .both) (v .clash)
-  conflict-tells (malformed _) is = absurd (omega (arith, form-listed bytes, is))
+  conflict-tells (malformed _) is = elim (form-listed bytes) [ inl few ↦ absurd (omega (arith, is)) | inr names ↦ absurd (omega (arith, is, names)) ]
   conflict-tells (unused _ _ _ _) is = absurd (omega arith)
   conflict-tells (barren _ _ _) is = absurd (omega arith)
   conflict-tells (conflict _ _ _ least here told) is = (least, here, told)

@@ -1,4 +1,4 @@
--- What judging a book comes to: numbers 0 to 6 and 22, each with what must not have held before it.
+-- What judging a book comes to: numbers 0 to 6, 19 and 22, each with what must not have held before it.
 use Prim.Native.Nat.{ℕ, _^_, _≤_, _<_}
 use mathlib.Core.Path.{_≡_}
 use mathlib.Core.Logic.{_↔_, _≢_}

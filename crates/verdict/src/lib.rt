@@ -1,8 +1,8 @@
-// Judging a book: numbers 0 to 6 and 22.
+// Judging a book: numbers 0 to 6, 19 and 22.
 ghost use mathlib.Core.Path.{_≡_};
 ghost use Prim.Native.Nat.{_<_, _≤_, _^_};
 ghost use lib.ListN.{length};
-ghost use Rattle.book.specs.Form.{DONE, countOf, formOf, bookOf};
+ghost use Rattle.book.specs.Form.{DONE, formOf, bookOf};
 ghost use Rattle.grammar.specs.Passing.{AllReached};
 ghost use Rattle.rules.specs.Facts.{tableSize, marksSize};
 ghost use Rattle.rules.specs.Growth.{Blank};
@@ -10,11 +10,8 @@ ghost use Rattle.verdict.specs.Judges.{Told, judgement, Judges};
 ghost use Rattle.verdict.specs.Conflicts.{GoodBook, Known, Leaves, clashOf};
 ghost use Rattle.verdict.specs.Conflicts.{Found, LowestFound, Conflicting, Clear, LowestUnmarked, LowestUnused};
 use book::DONE;
-use book::NODES_AT;
 use book::Node;
-use book::SETTINGS_AT;
 use rules::NodeFacts;
-use words::u16_at;
 
 // The answers' numbers, after those of a book's form.
 pub const BARREN: u32 = 5;
@@ -77,7 +74,7 @@ fn clash_at(book: &[u8], count: usize, n: usize, table: &[u64]) -> Clash
     requires { ⌜ n < count ⌝ }
     ensures { λ r. ⌜ Told (bookOf (now (book .entry)) .node) (bookOf (now (book .entry)) .node n) (r .both) (r .kinds) ⌝ }
 {
-    let node = book::node_at(book, NODES_AT, n);
+    let node = book::node_in(book, n);
     let left = rules::facts_at(table, rules::left_from(n, node));
     let right = rules::facts_at(table, rules::right_from(n, node));
     clash_of(node, left, right)
@@ -114,7 +111,7 @@ fn judge_known(book: &[u8], count: usize, table: &[u64]) -> Verdict
     requires { ⌜ AllReached (bookOf (now book)) ⌝ }
     ensures { λ r. ⌜ Judges (now (book .entry)) r ⌝ }
 {
-    let start = u16_at(book, SETTINGS_AT + 2);
+    let start = book::start_in(book);
     let facts = rules::facts_at(table, start);
     if !kinds::has(facts.productive, 0) {
         return verdict_of(BARREN, start, 0, 0);
@@ -149,29 +146,29 @@ fn lowest_unused(book: &[u8], count: usize, marks: &mut [u64]) -> usize
     requires { ⌜ Blank marksSize (now marks) ⌝ }
     ensures { λ r. ⌜ LowestUnused (bookOf (now (book .entry))) count r ⌝ }
 {
-    let start = u16_at(book, SETTINGS_AT + 2);
-    if rules::reach(book, NODES_AT, count, start, marks) {
+    let start = book::start_in(book);
+    if rules::reach(book, book::nodes_from(book), count, start, marks) {
         return count;
     }
     lowest_unmarked(count, marks)
 }
 
-// Judges a book, for any bytes: the first of 1 to 4, 22, 5 and 6, or that it passes, with its facts in the table. Where
-// the form is good the table is blank and long enough.
+// Judges a book, for any bytes: the first of 1 to 4, 19, 22, 5 and 6, or that it passes, with its facts in the table.
+// Where the form is good the table is blank and long enough.
 pub fn judge(book: &[u8], table: &mut [u64]) -> Verdict
-    requires { ⌜ (formOf (now book) .number ≡ DONE → Blank (tableSize (countOf (length (now book)))) (now table)) ⌝ }
+    requires { ⌜ (formOf (now book) .number ≡ DONE → Blank (tableSize (bookOf (now book) .count)) (now table)) ⌝ }
     ensures { λ r. ⌜ Leaves (now (book .entry)) r (now (table .exit)) ⌝ }
 {
     let form = book::form(book);
     if form.number != DONE {
         return verdict_of(form.number, form.place as usize, 0, 0);
     }
-    let count = book::count_of(book.len());
+    let count = book::count_in(book);
     let mut marks = [0u64; rules::MARKS];
     let unused = lowest_unused(book, count, &mut marks);
     if unused < count {
         return verdict_of(UNUSED, unused, 0, 0);
     }
-    rules::least_facts(book, NODES_AT, count, table);
+    rules::least_facts(book, book::nodes_from(book), count, table);
     judge_known(book, count, table)
 }

@@ -30,6 +30,11 @@ pub below-append : {limit : ℕ} {xs ys : List ℕ} → Below limit xs → Below
 below-append below-none also = also
 below-append (below-more below rest) also = below-more below (below-append rest also)
 
+-- numbers that are each below a limit
+pub below-each : {limit : ℕ} (l : List ℕ) → ((i : ℕ) → getD l i 0 < limit) → Below limit l
+below-each [] each = below-none
+below-each (n ∷ more) each = below-more (each 0) (below-each more (λ i. each (suc i)))
+
 -- the number at a place behind two bytes
 pub u16-behind : (low high : ℕ) (bytes : List ℕ) (at : ℕ) → u16At (low ∷ high ∷ bytes) (suc (suc at)) ≡ u16At bytes at
 unfolding u16At

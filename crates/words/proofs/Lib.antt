@@ -1,5 +1,7 @@
 pub mod Bytes
 pub mod Cleared
+pub mod FirstBad
 pub mod Lists
+pub mod Same
 pub mod Stored
 pub mod Tests

@@ -6,8 +6,11 @@ use mathlib.Core.List.{List, [], _∷_, map, flatMap}
 use lib.ListN.{getD, drop}
 use Rattle.words.specs.Words.{u16At, wordBytes}
 use Rattle.kinds.specs.Kinds.{setOf}
-use Rattle.book.specs.Decode.{nodeAt, nodes, nodeGood, firstBad}
-use Rattle.book.specs.Form.{formOf, bookOf}
+use Rattle.words.specs.Lists.{firstBad, every, same}
+use Rattle.book.specs.Decode.{nodeAt, nodes, nodeGood}
+use Rattle.names.specs.Names.{wholeAt, nameAt, nameNew, nameGood, namesGood}
+use Rattle.book.specs.Form.{named, settingsAt, countOf, formOf, bookOf}
+use Rattle.book.specs.Encode.{bodyWords}
 use Rattle.rules.proofs.Least.{filled, kept-or, differ, turned, settled, settle, decided}
 use Rattle.rules.proofs.Marks.{ruled, given, facts-decided, fact-decided, productive-decided, nullable-decided, first-decided, snf-decided}
 use Rattle.rules.proofs.Reaching.{child?, any, reached?, reach-decided}
@@ -58,12 +61,13 @@ each (c ∷ cases) e = and (holds c (ap (λ (l : List (List ℕ)). getD l 0 []) 
 -- the numbers, computed
 all-right : map computed table ≡ map said table
 unfolding table book wordBytes flatMap computed said by-verdict compiles-some
-    u16At bookOf nodeAt nodes nodeGood firstBad formOf ℕ-discrete decLt
+    u16At named settingsAt countOf bookOf nodeAt nodes nodeGood firstBad formOf ℕ-discrete decLt
+    every same wholeAt nameAt nameNew nameGood namesGood
     filled kept-or differ turned settled settle decided ruled given facts-decided fact-decided productive-decided nullable-decided
     first-decided snf-decided child? any reached? reach-decided
     decide other-way search setOf flag shared tells conflict? unreached?
     judged-fruitful judged-start judged-good judged-form judges-some marks
-    planBytes planContents bookBody valuesFrom listsFrom Bytes.rowOf Bytes.rowsOf cellOf
+    planBytes planContents bookBody bodyWords valuesFrom listsFrom Bytes.rowOf Bytes.rowsOf cellOf
     planCount planKinds planStart cellAt planFrom planGood cellGood cellsJudged planJudged
     moveOf noted visit takeOff walk event logged onward finish reads reading rowFirst expected acceptedOf outcomeOf runOf readOf
 all-right = refl

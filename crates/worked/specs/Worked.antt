@@ -2,7 +2,7 @@
 use Prim.Native.Nat.{ℕ, _*_}
 use mathlib.Core.Path.{_≡_}
 use mathlib.Core.List.{List, [], _∷_, _++_, flatMap}
-use lib.ListN.{length, take, set, replicate}
+use lib.ListN.{length, take, drop, set, replicate}
 use Rattle.words.specs.Words.{wordBytes, zeros}
 use Rattle.book.specs.Encode.{nodeWords}
 use Rattle.book.specs.declared.Node.{Node}
@@ -40,6 +40,11 @@ rinse = 2 ∷ 0 ∷ 1 ∷ 0 ∷ 14 ∷ 0 ∷ 4 ∷ 0 ∷ 2 ∷ 0 ∷ 18 ∷ 0 �
     ∷ 2 ∷ 0 ∷ 1 ∷ 0 ∷ 0 ∷ 0 ∷ 2 ∷ 0 ∷ 2 ∷ 0 ∷ 0 ∷ 0 ∷ 1 ∷ 0 ∷ 0 ∷ 0 ∷ 0 ∷ 0 ∷ 6 ∷ 0 ∷ 6 ∷ 0 ∷ 0 ∷ 0
     ∷ 4 ∷ 0 ∷ 1 ∷ 0 ∷ 4 ∷ 0 ∷ 3 ∷ 0 ∷ 5 ∷ 0 ∷ 3 ∷ 0 ∷ 4 ∷ 0 ∷ 6 ∷ 0 ∷ 2 ∷ 0 ∷ 4 ∷ 0 ∷ 0 ∷ 0 ∷ 7 ∷ 0 ∷ []
 
+-- the rinse book with names: contents of three sections, its settings and nodes, then fill, rinse and tip
+abbrev pub namedRinse : List ℕ
+namedRinse = 3 ∷ 0 ∷ 1 ∷ 0 ∷ 20 ∷ 0 ∷ 4 ∷ 0 ∷ 2 ∷ 0 ∷ 24 ∷ 0 ∷ 54 ∷ 0 ∷ 3 ∷ 0 ∷ 78 ∷ 0 ∷ 15 ∷ 0 ∷ drop 14 rinse
+    ++ (4 ∷ 102 ∷ 105 ∷ 108 ∷ 108 ∷ 5 ∷ 114 ∷ 105 ∷ 110 ∷ 115 ∷ 101 ∷ 3 ∷ 116 ∷ 105 ∷ 112 ∷ [])
+
 -- its plan: contents and settings; nodes; rows
 abbrev pub plan : List ℕ
 plan = 3 ∷ 0 ∷ 1 ∷ 0 ∷ 20 ∷ 0 ∷ 4 ∷ 0 ∷ 2 ∷ 0 ∷ 24 ∷ 0 ∷ 54 ∷ 0 ∷ 3 ∷ 0 ∷ 78 ∷ 0 ∷ 36 ∷ 0 ∷ 3 ∷ 0 ∷ 8 ∷ 0
@@ -48,7 +53,8 @@ plan = 3 ∷ 0 ∷ 1 ∷ 0 ∷ 20 ∷ 0 ∷ 4 ∷ 0 ∷ 2 ∷ 0 ∷ 24 ∷ 0 ∷
     ∷ 4 ∷ 0 ∷ 0 ∷ 0 ∷ 7 ∷ 0 ∷ 1 ∷ 0 ∷ 0 ∷ 0 ∷ 0 ∷ 1 ∷ 0 ∷ 0 ∷ 0 ∷ 0 ∷ 1 ∷ 0 ∷ 0 ∷ 0 ∷ 0 ∷ 1
     ∷ 0 ∷ 2 ∷ 0 ∷ 1 ∷ 0 ∷ 3 ∷ 0 ∷ 0 ∷ 0 ∷ 2 ∷ 0 ∷ 1 ∷ 0 ∷ 3 ∷ 4 ∷ 0 ∷ 3 ∷ 0 ∷ 0 ∷ 0 ∷ []
 
--- the cases, with the plans of a lone empty, of a harmless left recursion, and of two nodes over 64 kinds
+-- the cases, with the plans of a lone empty, of a harmless left recursion, and of two nodes over 64 kinds, and a book
+-- with two names
 unfoldable pub table : List Case
 table =
     let lone : List ℕ = 3 ∷ 0 ∷ 1 ∷ 0 ∷ 20 ∷ 0 ∷ 4 ∷ 0 ∷ 2 ∷ 0 ∷ 24 ∷ 0 ∷ 6 ∷ 0 ∷ 3 ∷ 0 ∷ 30 ∷ 0 ∷ 2 ∷ 0
@@ -58,6 +64,8 @@ table =
     ∷ 2 ∷ 0 ∷ 0 ∷ 0 ∷ 0 ∷ 0 ∷ 3 ∷ 0 ∷ 2 ∷ 0 ∷ 3 ∷ 0 ∷ 2 ∷ 0 ∷ 0 ∷ 0 ∷ 0 ∷ 0 ∷ 1 ∷ 0 ∷ 5 ∷ 0 ∷ [] in
     let wide : List ℕ = 3 ∷ 0 ∷ 1 ∷ 0 ∷ 20 ∷ 0 ∷ 4 ∷ 0 ∷ 2 ∷ 0 ∷ 24 ∷ 0 ∷ 12 ∷ 0 ∷ 3 ∷ 0 ∷ 36 ∷ 0 ∷ 130 ∷ 0 ∷ 64 ∷ 0
     ∷ 1 ∷ 0 ∷ 2 ∷ 0 ∷ 63 ∷ 0 ∷ 0 ∷ 0 ∷ 5 ∷ 0 ∷ 0 ∷ 0 ∷ 255 ∷ 255 ∷ zeros 63 ++ 1 ∷ 0 ∷ zeros 63 ++ 2 ∷ 0 ∷ [] in
+    let pair : List ℕ = 3 ∷ 0 ∷ 1 ∷ 0 ∷ 20 ∷ 0 ∷ 4 ∷ 0 ∷ 2 ∷ 0 ∷ 24 ∷ 0 ∷ 6 ∷ 0 ∷ 3 ∷ 0 ∷ 30 ∷ 0 ∷ 4 ∷ 0
+    ∷ 2 ∷ 0 ∷ 0 ∷ 0 ∷ 2 ∷ 0 ∷ 0 ∷ 0 ∷ 0 ∷ 0 ∷ 1 ∷ 97 ∷ 1 ∷ 98 ∷ [] in
     compiled rinse 114 (answer 0 0 114 0 0) plan ∷ compiled rinse 113 (answer 7 0 114 0 0) (zeros 113)
     ∷ read plan (0 ∷ 1 ∷ 2 ∷ []) 2 8 (answered 0 3 8 0) (8 ∷ 0 ∷ 7 ∷ 6 ∷ 5 ∷ 1 ∷ 32772 ∷ 2 ∷ [])
     ∷ read plan (0 ∷ 1 ∷ 2 ∷ []) 1 8 (answered 11 1 0 0) (zeros 8) ∷ read plan [] 0 0 (answered 11 0 0 0) []
@@ -89,9 +97,15 @@ table =
     ∷ read wide (64 ∷ []) 1 0 (answered 12 0 0 9223372036854775808) []
     ∷ compiled (zeros 18) 0 (answer 1 0 0 0 0) [] ∷ compiled (zeros 24) 0 (answer 2 0 0 0 0) []
     ∷ compiled (zeros 3090) 0 (answer 2 0 0 0 0) [] ∷ compiled (zeros 3096) 0 (answer 1 0 0 0 0) []
-    ∷ compiled (book 65 0 (Fail ∷ [])) 0 (answer 3 0 0 0 0) []
-    ∷ compiled (book 64 1 (Fail ∷ [])) 0 (answer 3 0 0 0 0) []
+    ∷ compiled (book 65 0 (Fail ∷ [])) 0 (answer 3 0 0 0 0) [] ∷ compiled (book 64 1 (Fail ∷ [])) 0 (answer 3 0 0 0 0) []
     ∷ compiled (book 64 511 (Token 63 ∷ Token 64 ∷ replicate 510 Fail)) 0 (answer 4 1 0 0 0) []
+    ∷ compiled namedRinse 114 (answer 0 0 114 0 0) plan ∷ compiled namedRinse 113 (answer 7 0 114 0 0) (zeros 113)
+    ∷ compiled (3 ∷ zeros 30) 0 (answer 1 0 0 0 0) [] ∷ compiled (3 ∷ zeros 31) 0 (answer 2 0 0 0 0) []
+    ∷ compiled (3 ∷ zeros 4183) 0 (answer 2 0 0 0 0) [] ∷ compiled (3 ∷ zeros 4184) 0 (answer 1 0 0 0 0) []
+    ∷ compiled (set namedRinse 16 79) 0 (answer 2 0 0 0 0) [] ∷ compiled (set (set namedRinse 24 7) 78 0) 0 (answer 4 0 0 0 0) []
+    ∷ compiled (set namedRinse 78 5) 0 (answer 19 0 0 0 0) [] ∷ compiled (set namedRinse 88 127) 0 (answer 19 1 0 0 0) []
+    ∷ compiled (set namedRinse 89 4) 0 (answer 19 2 0 0 0) [] ∷ compiled (set namedRinse 89 2) 0 (answer 19 3 0 0 0) []
+    ∷ compiled pair 0 (answer 7 0 33 0 0) [] ∷ compiled (set pair 33 97) 0 (answer 19 1 0 0 0) []
     ∷ read (take 113 plan) [] 2 0 (answered 8 0 0 0) [] ∷ read (set plan 2 2) [] 2 0 (answered 8 0 0 0) []
     ∷ read (set plan 111 2) [] 2 0 (answered 9 33 0 0) [] ∷ read (set plan 113 2) [] 2 0 (answered 9 35 0 0) []
     ∷ read plan (zeros 65535) 2 0 (answered 13 1 0 6) [] ∷ read plan (zeros 65536) 0 0 (answered 10 0 0 0) []

@@ -1,13 +1,12 @@
 -- The bytes of a book's plan: contents, settings and nodes as in the book, then the rows.
-use Prim.Native.Nat.{ℕ, _+_, _*_}
+use Prim.Native.Nat.{ℕ}
 use mathlib.Core.Bool.{cond}
 use mathlib.Core.List.{List, [], _∷_, _++_}
-use lib.Seq.{slice}
 use Rattle.words.specs.Lists.{valuesFrom, listsFrom}
 use Rattle.words.specs.Words.{wordBytes}
 use Rattle.forms.specs.Forms.{contentsOf}
 use Rattle.book.specs.Book.{Book}
-use Rattle.book.specs.Form.{settingsAt, nodesAt, bookOf}
+use Rattle.book.specs.Encode.{bodyWords}
 use Rattle.running.specs.Cells.{Marks, cellOf}
 use Rattle.plan.specs.Form.{planSections}
 
@@ -15,9 +14,9 @@ use Rattle.plan.specs.Form.{planSections}
 unfoldable pub planContents : ℕ → ℕ → List ℕ
 planContents count kinds = wordBytes (contentsOf (planSections count kinds))
 
--- the settings and so many nodes of a book, as its bytes have them
-unfoldable pub bookBody : List ℕ → ℕ → List ℕ
-bookBody bytes count = slice settingsAt (nodesAt + 6 * count) bytes
+-- the settings and nodes of a book
+unfoldable pub bookBody : Book → List ℕ
+bookBody book = wordBytes (bodyWords book)
 
 module _ (marks : Marks) (book : Book) where
   -- a node's row: a cell for each kind, then 1 if the node is nullable, else 0
@@ -28,8 +27,6 @@ module _ (marks : Marks) (book : Book) where
   unfoldable pub rowsOf : List ℕ
   rowsOf = listsFrom rowOf (book .count) 0
 
--- the plan of a book's bytes, with the marks of its nodes
-unfoldable pub planBytes : List ℕ → Marks → List ℕ
-planBytes bytes marks =
-    let book = bookOf bytes in
-    planContents (book .count) (book .kinds) ++ (bookBody bytes (book .count) ++ rowsOf marks book)
+-- the plan of a book, with the marks of its nodes
+unfoldable pub planBytes : Book → Marks → List ℕ
+planBytes book marks = planContents (book .count) (book .kinds) ++ (bookBody book ++ rowsOf marks book)

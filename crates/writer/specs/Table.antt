@@ -7,8 +7,7 @@ use lib.Dec.{ltb}
 use lib.ListN.{length, getD}
 use Rattle.kinds.specs.Kinds.{has?}
 use Rattle.words.specs.Lists.{valuesFrom}
-use Rattle.words.specs.Words.{u16At}
-use Rattle.book.specs.Form.{DONE, countOf, settingsAt, formOf}
+use Rattle.book.specs.Form.{DONE, formOf, bookOf}
 use Rattle.book.specs.declared.Node.{Node}
 use Rattle.book.specs.declared.Node.the-variants.{Fail, Empty, Token, Either, Then, Tagged, Ref}
 use Rattle.rules.specs.Facts.{tableSize, factsAt}
@@ -51,8 +50,8 @@ rowBy first left near far kinds mark = valuesFrom (cellBy first left near far) k
 -- what the plan writer is called with: a book of good form, its count and kinds, a table of its facts, room for the plan
 pub record Writable (book table plan : List ℕ) (count kinds : ℕ) : Type 0 where
   pub form : formOf book .number ≡ DONE
-  pub count-is : count ≡ countOf (length book)
-  pub kinds-is : kinds ≡ u16At book settingsAt
+  pub count-is : count ≡ bookOf book .count
+  pub kinds-is : kinds ≡ bookOf book .kinds
   pub table-long : tableSize count ≤ length table
   pub plan-long : planSize count kinds ≤ length plan
 

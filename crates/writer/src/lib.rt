@@ -7,12 +7,13 @@ ghost use lib.ListN.{length};
 ghost use lib.Seq.{sets};
 ghost use Rattle.words.specs.Words.{zeros};
 ghost use Rattle.book.specs.Book.{leftOf};
-ghost use Rattle.book.specs.Form.{nodesAt, bookOf};
+ghost use Rattle.book.specs.Form.{DONE, formOf, bookOf};
 ghost use Rattle.plan.specs.Form.{planSize, planSettingsAt, rowsAt, rowAt};
 ghost use Rattle.writer.specs.Bytes.{planContents, bookBody, rowOf, rowsOf, planBytes};
 ghost use Rattle.writer.specs.Table.{marksOf, farCell, rowBy, Writable, ClearFrom};
 use book::Node;
-use book::node_at;
+use book::node_in;
+use book::settings_from;
 use forms::put_contents;
 use kinds::has;
 use kinds::lowest;
@@ -21,6 +22,7 @@ use plan::PLAN_NODES_AT;
 use plan::PLAN_SETTINGS_AT;
 use plan::one_cell;
 use rules::facts_at;
+use words::copy_bytes;
 
 // Writes a plan's contents.
 fn put_plan_contents(plan: &mut [u8], count: usize, kinds: usize)
@@ -33,15 +35,13 @@ fn put_plan_contents(plan: &mut [u8], count: usize, kinds: usize)
 
 // Writes a book's settings and nodes.
 fn put_book(plan: &mut [u8], book: &[u8], count: usize)
-    requires { ⌜ (nodesAt + 6 * count ≤ length (now book)) × (rowsAt count ≤ length (now plan)) ⌝ }
-    ensures { λ _. ⌜ now (plan .exit) ≡ sets (now (plan .entry)) planSettingsAt (bookBody (now (book .entry)) count) ⌝ }
+    requires { ⌜ (formOf (now book) .number ≡ DONE) × (count ≡ bookOf (now book) .count) ⌝ }
+    requires { ⌜ rowsAt count ≤ length (now plan) ⌝ }
+    ensures { λ _.
+        ⌜ now (plan .exit) ≡ sets (now (plan .entry)) planSettingsAt (bookBody (bookOf (now (book .entry)))) ⌝ }
 {
     let size = PLAN_NODES_AT + 6 * count - PLAN_SETTINGS_AT;
-    let mut i = 0;
-    while i < size {
-        plan[PLAN_SETTINGS_AT + i] = book[book::SETTINGS_AT + i];
-        i += 1;
-    }
+    copy_bytes(book, settings_from(book), plan, PLAN_SETTINGS_AT, size);
 }
 
 // The left of a node, 0 where it has none.
@@ -121,7 +121,7 @@ fn write_row(
     requires { ⌜ Writable (now book) (now table) (now plan) count kinds × (n < count) × (at ≡ rowAt count kinds n) × ClearFrom (now plan) at ⌝ }
     ensures { λ _. ⌜ now (plan .exit) ≡ sets (now (plan .entry)) at (rowOf (marksOf (now (table .entry)) count) (bookOf (now (book .entry))) n) ⌝ }
 {
-    let node = node_at(book, book::NODES_AT, n);
+    let node = node_in(book, n);
     let left = left_of(node);
     let facts = facts_at(table, n);
     let left_facts = facts_at(table, left);
@@ -158,7 +158,7 @@ fn write_rows(book: &[u8], count: usize, kinds: usize, table: &[u64], plan: &mut
 pub fn write_plan(book: &[u8], count: usize, kinds: usize, table: &[u64], plan: &mut [u8])
     requires { ⌜ Writable (now book) (now table) (now plan) count kinds × (now plan ≡ zeros (length (now plan))) ⌝ }
     ensures { λ _. ⌜ now (plan .exit)
-        ≡ planBytes (now (book .entry)) (marksOf (now (table .entry)) count)
+        ≡ planBytes (bookOf (now (book .entry))) (marksOf (now (table .entry)) count)
         ++ zeros (length (now (plan .entry)) - planSize count kinds) ⌝ }
 {
     put_plan_contents(plan, count, kinds);

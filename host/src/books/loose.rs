@@ -1,6 +1,7 @@
 //! Bytes given as a book: books of all shapes, damaged ones, spliced ones and bytes of no form.
 
 use super::damaged::damaged;
+use super::named::named_book;
 use super::random::Random;
 use super::shapes::{any_book, large_book, likely_book};
 use crate::book::*;
@@ -33,9 +34,11 @@ pub fn beyond_limits(random: &mut Random) -> Book {
 
 /// Bytes given as a book.
 pub fn any_bytes(random: &mut Random) -> Vec<u8> {
-    match random.below(10) {
+    match random.below(12) {
         0..=3 => good_book(random).bytes(),
         4..=6 => damaged_book(random),
+        10 => named_book(random),
+        11 => damaged_named_book(random),
         7 => loose_nodes(random).bytes(),
         8 if random.once_in(5) => beyond_limits(random).bytes(),
         8 => spliced(random),
@@ -50,6 +53,12 @@ fn damaged_book(random: &mut Random) -> Vec<u8> {
         bytes = damaged(random, &bytes);
     }
     bytes
+}
+
+/// The bytes of a book with names, with something damaged.
+fn damaged_named_book(random: &mut Random) -> Vec<u8> {
+    let bytes = named_book(random);
+    damaged(random, &bytes)
 }
 
 /// A book with small numbers for all types and fields, right or wrong.

@@ -6,6 +6,7 @@ pub mod forged;
 pub mod inputs;
 pub mod limits;
 pub mod loose;
+pub mod named;
 pub mod random;
 pub mod runs;
 pub mod shapes;

@@ -25,9 +25,11 @@ pub static COMPILE: Call = Call {
         (BARREN, 2_500),
         (CONFLICT, 6_000),
         (PLAN_ROOM, 5_000),
+        (NAMES, 2_000),
         (UNUSED, 5_000),
     ],
     share: 140,
+    done: DONE,
     wanted,
     made: Made::Archive(raw),
     example: || given(&rinse().bytes(), plan_of(&rinse()).len()),
@@ -79,8 +81,15 @@ fn any(random: &mut Random) -> Vec<Argument> {
 
 /// The size of the plan of these bytes, if they are a book; at most what is lent.
 fn plan_size(book: &[u8]) -> usize {
-    let nodes = book.len().saturating_sub(BOOK_NODES) / NODE_BYTES;
-    let kinds = book.get(BOOK_SETTINGS).map_or(0, |&low| usize::from(low));
+    let (settings, nodes) = if is_named(book) && book.len() > NAMED_NODES {
+        (NAMED_SETTINGS, named_count(book))
+    } else {
+        (
+            BOOK_SETTINGS,
+            book.len().saturating_sub(BOOK_NODES) / NODE_BYTES,
+        )
+    };
+    let kinds = book.get(settings).map_or(0, |&low| usize::from(low));
     let size = PLAN_NODES + nodes * (NODE_BYTES + kinds + 1);
     size.min(PLAN_BUFFER.most - 100)
 }

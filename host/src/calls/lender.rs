@@ -30,7 +30,7 @@ impl Lending {
     }
 }
 
-/// A part of memory as C has it: where it begins, and how many elements it has.
+/// A part of memory as C has it: where it begins, and how many elements it has; of a number, the number.
 #[derive(Clone, Copy, Debug)]
 pub struct Part {
     pub at: *mut u8,
@@ -45,6 +45,7 @@ enum Region {
     Sealed(Sealed),
     Bytes(Lent<u8>),
     Words(Lent<u16>),
+    None,
 }
 
 /// Memory for the calls, for each sort as much as is lent at most, made when it is first lent.
@@ -105,6 +106,7 @@ impl Lender {
                 Way::Read(_) => Region::Sealed(Sealed::new(sort.most)),
                 Way::WriteBytes => Region::Bytes(Lent::new(sort.most)),
                 Way::WriteWords => Region::Words(Lent::new(sort.most)),
+                Way::Number => Region::None,
             })
     }
 }
@@ -123,6 +125,7 @@ impl Region {
             (Region::Words(lent), &Argument::Room(room)) => {
                 lent.lend(doubled(garbage), room, edge).as_mut_ptr().cast()
             }
+            (Region::None, Argument::Number(_)) => null_mut(),
             _ => panic!("an argument of another sort"),
         };
         let len = argument.size();
@@ -136,7 +139,7 @@ impl Region {
     /// What a buffer of this length holds.
     fn left(&mut self, room: usize, edge: Edge) -> Left {
         match self {
-            Region::Sealed(_) => panic!("nothing is left where nothing is written"),
+            Region::Sealed(_) | Region::None => panic!("nothing is left where nothing is written"),
             Region::Bytes(lent) => Left::Bytes(lent.part(room, edge).to_vec()),
             Region::Words(lent) => Left::Words(lent.part(room, edge).to_vec()),
         }
@@ -146,7 +149,7 @@ impl Region {
     fn kept_beside(&mut self, room: usize, lending: Lending) -> bool {
         let Lending { edge, garbage, .. } = lending;
         match self {
-            Region::Sealed(_) => true,
+            Region::Sealed(_) | Region::None => true,
             Region::Bytes(lent) => lent.kept_beside(garbage, room, edge),
             Region::Words(lent) => lent.kept_beside(doubled(garbage), room, edge),
         }

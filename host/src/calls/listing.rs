@@ -26,11 +26,13 @@ pub static LISTING: Call = Call {
         (UNEXPECTED, 7_000),
         (END, 1_000),
         (NO_ROOM, 100),
+        (NAMES, 300),
         (UNUSED, 3_000),
         (INPUT_TOO_LONG, 3_000),
         (INPUT_TOO_SHORT, 4_000),
     ],
     share: 5,
+    done: DONE,
     wanted: |arguments| {
         answer(Printed {
             output: listing::listing(arguments[0].bytes()).into_bytes(),

@@ -5,6 +5,8 @@ pub mod compile;
 pub mod form;
 pub mod lender;
 pub mod listing;
+pub mod moves;
+pub mod name;
 pub mod read;
 pub mod sorts;
 
@@ -21,10 +23,13 @@ pub type Compile = fn(&[u8], &mut [u8]) -> Compiled;
 pub type Read = fn(&[u8], &[u8], &mut [u16], &mut [u16]) -> Reading;
 
 /// All calls; a call's place here is its number.
-pub static CALLS: [&Call; 4] = [
+pub static CALLS: [&Call; 7] = [
     &form::FORM,
     &compile::COMPILE,
     &read::READ,
+    &moves::FORWARD,
+    &moves::BACK,
+    &name::NAME,
     &listing::LISTING,
 ];
 
@@ -39,6 +44,8 @@ pub struct Call {
     pub answers: &'static [(u32, u64)],
     /// How often the fuzzer makes the call, beside the others.
     pub share: usize,
+    /// The number by which its example is answered.
+    pub done: u32,
     /// What the call must answer and leave behind.
     pub wanted: fn(&[Argument]) -> Answer,
     /// How the call under test is made.
@@ -101,6 +108,8 @@ pub enum Argument {
     Given(Vec<u8>),
     /// A buffer of so many elements that it is to write.
     Room(usize),
+    /// A number.
+    Number(u32),
 }
 
 impl Argument {
@@ -108,15 +117,23 @@ impl Argument {
     pub fn bytes(&self) -> &[u8] {
         match self {
             Argument::Given(bytes) => bytes,
-            Argument::Room(_) => panic!("a buffer where bytes are due"),
+            _ => panic!("no bytes where bytes are due"),
         }
     }
 
     /// The length of the buffer that is lent.
     pub fn room(&self) -> usize {
         match self {
-            Argument::Given(_) => panic!("bytes where a buffer is due"),
             Argument::Room(room) => *room,
+            _ => panic!("no buffer where a buffer is due"),
+        }
+    }
+
+    /// The number that is given.
+    pub fn number(&self) -> u32 {
+        match self {
+            Argument::Number(number) => *number,
+            _ => panic!("no number where a number is due"),
         }
     }
 
@@ -125,6 +142,7 @@ impl Argument {
         match self {
             Argument::Given(bytes) => bytes.len(),
             Argument::Room(room) => *room,
+            Argument::Number(number) => *number as usize,
         }
     }
 }

@@ -33,6 +33,7 @@ pub static READ: Call = Call {
         (NO_ROOM, 3_000),
     ],
     share: 175,
+    done: DONE,
     wanted,
     made: Made::Archive(raw),
     example: || given(&plan_of(&rinse()), &[0, 1, 2], 2, 8),

@@ -20,6 +20,8 @@ pub enum Way {
     WriteBytes,
     /// 16-bit numbers to be written.
     WriteWords,
+    /// A number, handed over as it is.
+    Number,
 }
 
 /// The most elements that are lent of most sorts.
@@ -53,6 +55,27 @@ pub static INPUT: Sort = Sort {
     most: MOST,
 };
 
+/// A house list, or what is given as one.
+pub static HOUSE: Sort = Sort {
+    name: "house list",
+    way: Way::Read(smaller_bytes),
+    most: MOST,
+};
+
+/// The buffer that a book is written to.
+pub static OUT: Sort = Sort {
+    name: "book buffer",
+    way: Way::WriteBytes,
+    most: MOST,
+};
+
+/// A kind.
+pub static KIND: Sort = Sort {
+    name: "kind",
+    way: Way::Number,
+    most: 0,
+};
+
 /// The buffer that the plan is written to.
 pub static PLAN_BUFFER: Sort = Sort {
     name: "plan buffer",
@@ -82,6 +105,9 @@ impl Sort {
                 Box::new(smaller(bytes).map(Argument::Given))
             }
             (_, Argument::Room(room)) => Box::new(smaller_numbers(*room).map(Argument::Room)),
+            (_, Argument::Number(number)) => Box::new(
+                smaller_numbers(*number as usize).map(|less| Argument::Number(less as u32)),
+            ),
             (_, Argument::Given(_)) => panic!("bytes where a buffer is due"),
         }
     }

@@ -3,5 +3,6 @@
 pub mod compile;
 pub mod form;
 pub mod lent;
+pub mod moves;
 pub mod read;
 pub mod vast;

@@ -48,6 +48,7 @@ impl Display for Case {
             match argument {
                 Argument::Given(bytes) => write_bytes(f, sort.name, bytes)?,
                 Argument::Room(room) => writeln!(f, "  {} of {room}", sort.name)?,
+                Argument::Number(number) => writeln!(f, "  {} {number}", sort.name)?,
             }
         }
         Ok(())

@@ -82,7 +82,7 @@ mod tests {
 
     /// Whether these bytes are a well-formed book with a node of this type.
     fn has_node(bytes: &[u8], wanted: u16) -> bool {
-        let nodes = || Book::of(&bytes[BOOK_SETTINGS..]).nodes;
+        let nodes = || Book::of_bytes(bytes).nodes;
         judge(bytes).number == DONE && nodes().iter().any(|node| node.form == wanted)
     }
 

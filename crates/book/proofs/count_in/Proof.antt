@@ -1,11 +1,11 @@
--- `book::count_in` meets its contract: the count that the length gives.
+-- `book::count_in` meets its contract: the book's own count.
 use Rattle.book.specs.Form.{bookOf}
-use Rattle.book.proofs.Decoded.{formed, settings-within}
+use Rattle.book.proofs.Decoded.{formed, nodes-begin}
 use Rattle.book.proofs.count_in.Statement.{statement}
 use Rattle.book.proofs.count_in.Tie as tie
 
 count-of-requires : tie.Need-count-of-requires
-count-of-requires c κs = settings-within (formed _ (c .before .pre))
+count-of-requires c κs = nodes-begin (formed _ (c .before .pre)) .0
 
 returns : tie.Need-returns
 unfolding bookOf

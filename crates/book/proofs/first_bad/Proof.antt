@@ -5,7 +5,7 @@ use borrow.Author.Needs.{needs}
 use borrow.Author.Tests.{not-true, not-false}
 use mathlib.Core.Path.{_∙_, sym}
 use Rattle.book.specs.Decode.{nodeGood}
-use Rattle.book.proofs.FirstBad.{Searched, searched-none, searched-more, searched-bad, searched-all}
+use Rattle.words.proofs.FirstBad.{Searched, searched-none, searched-more, searched-bad, searched-all}
 use Rattle.book.proofs.first_bad.Statement.{statement}
 use Rattle.book.proofs.first_bad.Tie as tie
 

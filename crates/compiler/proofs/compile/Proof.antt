@@ -1,16 +1,19 @@
 -- `compiler::compile` meets its contract: the table of facts is blank and long enough for the book.
-use native.Mathlib.Omega.{arith}
 use borrow.Author.Needs.{needs}
-use Rattle.rules.proofs.Growing.{blank-zeros, blank-less}
-use Rattle.compiler.proofs.Answers.{table-blank}
+use Rattle.compiler.proofs.Answers.{table-blank, small-blank}
 use Rattle.compiler.proofs.compile.Statement.{statement}
 use Rattle.compiler.proofs.compile.Tie as tie
+
+count-claimed-requires : tie.Need-count-claimed-requires
+count-claimed-requires c κs = search needs
 
 slice-aggregate-compile-by : tie.Need-slice-aggregate-compile-by
 slice-aggregate-compile-by c = search needs
 
 compile-by-requires : tie.Need-compile-by-requires
-compile-by-requires c κs = λ good. blank-less {least = 256} (omega (arith, c .before .before .if1 .taken)) (blank-zeros 256)
+compile-by-requires c κs =
+    let tested = c .before .before in
+    λ good. small-blank _ (tested .before .count-claimed .ensures) (tested .if1 .taken) good
 
 same-length : tie.Need-same-length
 same-length c = search needs
@@ -34,6 +37,7 @@ pub compile-spec : {M : Type 1} → statement M
 compile-spec =
     tie.close
     (tie.spec
+    count-claimed-requires
     slice-aggregate-compile-by
     compile-by-requires
     same-length

@@ -1,21 +1,19 @@
 -- `compiler::put_plan` meets its contract: the plan is written where there is room for it.
-use native.Mathlib.Omega.{arith}
 use borrow.Author.Needs.{needs}
-use Rattle.verdict.proofs.Books.{book-long}
 use Rattle.compiler.proofs.Answers.{limits, answered-no-room, answered-done, writable}
 use Rattle.compiler.proofs.put_plan.Statement.{statement}
 use Rattle.compiler.proofs.put_plan.Tie as tie
 
-count-of-requires : tie.Need-count-of-requires
-count-of-requires c κs = omega (arith, book-long (c .before .before .before .pre .1 .good))
+count-in-requires : tie.Need-count-in-requires
+count-in-requires c κs = c .before .before .before .pre .1 .good .form
 
-u16-at-requires : tie.Need-u16-at-requires
-u16-at-requires c κs = omega (arith, book-long (c .before .before .before .before .pre .1 .good))
+kinds-in-requires : tie.Need-kinds-in-requires
+kinds-in-requires c κs = c .before .before .before .before .pre .1 .good .form
 
 plan-size-requires : tie.Need-plan-size-requires
 plan-size-requires c κs =
     let counted = c .before in
-    limits (counted .before .before .before .before .pre .1) (counted .count-of .ensures) (c .u16-at .ensures .0)
+    limits (counted .before .before .before .before .pre .1) (counted .count-in .ensures) (c .kinds-in .ensures)
 
 answered-requires : tie.Need-answered-requires
 answered-requires c κs = search needs
@@ -31,7 +29,7 @@ returns c =
     let read = sized .before in
     let counted = read .before in
     let entry = counted .before .before .before .before in
-    answered-no-room (entry .pre .1) (entry .pre .0) (counted .count-of .ensures) (read .u16-at .ensures .0) (sized .plan-size .ensures .0)
+    answered-no-room (entry .pre .1) (entry .pre .0) (counted .count-in .ensures) (read .kinds-in .ensures) (sized .plan-size .ensures .0)
     (tested .if1 .taken)
     (answered .answered .ensures)
 
@@ -46,7 +44,7 @@ write-plan-requires c κs =
     let read = sized .before in
     let counted = read .before in
     let entry = counted .before .before .before .before in
-    writable (entry .pre .1) (entry .pre .0) (counted .count-of .ensures) (read .u16-at .ensures .0) (sized .plan-size .ensures .0)
+    writable (entry .pre .1) (entry .pre .0) (counted .count-in .ensures) (read .kinds-in .ensures) (sized .plan-size .ensures .0)
     (answered .answered2 .ensures .1)
     (tested .if1 .left)
 
@@ -63,7 +61,7 @@ returns-2 c =
     let counted = read .before in
     let wide = counted .before .before .shared-slice-known2 .given in
     let entry = counted .before .before .before .before in
-    answered-done (entry .pre .1) (entry .pre .0) (counted .count-of .ensures) (read .u16-at .ensures .0) (sized .plan-size .ensures .0)
+    answered-done (entry .pre .1) (entry .pre .0) (counted .count-in .ensures) (read .kinds-in .ensures) (sized .plan-size .ensures .0)
     (answered .answered2 .ensures .1)
     (tested .if1 .left)
     (λ i. wide i .fits)
@@ -74,8 +72,8 @@ pub put-plan-spec : {M : Type 1} → statement M
 put-plan-spec =
     tie.close
     (tie.spec
-    count-of-requires
-    u16-at-requires
+    count-in-requires
+    kinds-in-requires
     plan-size-requires
     answered-requires
     same-length

@@ -1,15 +1,15 @@
 -- `verdict::clash_at` meets its contract: the node is read, and the table has the facts of its left and right.
 use native.Mathlib.Omega.{arith}
 use borrow.Author.Needs.{needs}
-use Rattle.verdict.proofs.Books.{nodes-good}
 use Rattle.verdict.proofs.Clashes.{left-in, right-in, told-read}
 use Rattle.verdict.proofs.clash_at.Statement.{statement}
 use Rattle.verdict.proofs.clash_at.Tie as tie
 
-node-at-requires : tie.Need-node-at-requires
-node-at-requires c κs =
+node-in-requires : tie.Need-node-in-requires
+node-in-requires c κs =
     let entry = c .before .before in
-    omega (arith, entry .pre .1, nodes-good (entry .pre .0 .good) .within)
+    let good = entry .pre .0 .good in
+    (good .form, rw (good .count-is) at (entry .pre .1))
 
 left-from-requires : tie.Need-left-from-requires
 left-from-requires c κs = search needs
@@ -18,7 +18,7 @@ facts-at-requires : tie.Need-facts-at-requires
 facts-at-requires c κs =
     let entry = c .before .before .before .before in
     let known = entry .pre .0 in
-    omega (arith, c .left-from .ensures, left-in known (entry .pre .1) (c .before .node-at .ensures), known .long)
+    omega (arith, c .left-from .ensures, left-in known (entry .pre .1) (c .before .node-in .ensures), known .long)
 
 right-from-requires : tie.Need-right-from-requires
 right-from-requires c κs = search needs
@@ -28,7 +28,7 @@ facts-at-requires-2 c κs =
     let read = c .before .before .before in
     let entry = read .before .before .before in
     let known = entry .pre .0 in
-    omega (arith, c .right-from .ensures, right-in known (entry .pre .1) (read .node-at .ensures), known .long)
+    omega (arith, c .right-from .ensures, right-in known (entry .pre .1) (read .node-in .ensures), known .long)
 
 clash-of-requires : tie.Need-clash-of-requires
 clash-of-requires c κs = search needs
@@ -38,7 +38,7 @@ returns c =
     let left = c .before .before .before in
     let read = left .before .before in
     let entry = read .before .before .before in
-    told-read (entry .pre .0) (entry .pre .1) (read .node-at .ensures) (λ i. read .before .shared-slice-known2 .given i .fits)
+    told-read (entry .pre .0) (entry .pre .1) (read .node-in .ensures) (λ i. read .before .shared-slice-known2 .given i .fits)
     (left .before .left-from .ensures)
     (left .facts-at .ensures)
     (c .before .before .right-from .ensures)
@@ -49,7 +49,7 @@ pub clash-at-spec : {M : Type 1} → statement M
 clash-at-spec =
     tie.close
     (tie.spec
-    node-at-requires
+    node-in-requires
     left-from-requires
     facts-at-requires
     right-from-requires

@@ -7,7 +7,7 @@ use Rattle.book.specs.declared.Judged.{Judged}
 use Rattle.book.specs.Form.{DONE, formOf}
 use Rattle.rules.proofs.Growing.{blank-zeros}
 use Rattle.verdict.specs.Conflicts.{GoodBook}
-use Rattle.verdict.proofs.Books.{book-count, book-long, count-small, nodes-good, facts-known, known-own}
+use Rattle.verdict.proofs.Books.{count-small, nodes-good, facts-known, known-own}
 use Rattle.verdict.proofs.Answers.{answered-malformed, answered-unused, reached-all}
 use Rattle.verdict.proofs.judge.Statement.{statement}
 use Rattle.verdict.proofs.judge.Tie as tie
@@ -16,8 +16,8 @@ use Rattle.verdict.proofs.judge.Tie as tie
 form-is : (c : tie.Else1) → formOf (now (c .before .before .before .before .before .args .book)) .number ≡ DONE
 form-is c = sym (ap (λ (j : Judged). j .number) (c .before .before .form .ensures)) ∙ c .if1 .left
 
-good : (c : tie.After-count-of) → GoodBook (now (c .before .before .before .before .before .before .args .book)) (c .count-of .result)
-good c = record { form = form-is (c .before); count-is = c .count-of .ensures ∙ book-count _ }
+good : (c : tie.After-count-in) → GoodBook (now (c .before .before .before .before .before .before .args .book)) (c .count-in .result)
+good c = record { form = form-is (c .before); count-is = c .count-in .ensures }
 
 form-requires : tie.Need-form-requires
 form-requires c κs = search needs
@@ -33,8 +33,11 @@ returns c =
     let tested = c .before .before in
     rw (c .verdict-of .ensures) (answered-malformed (tested .before .before .form .ensures) (tested .if1 .taken))
 
-count-of-requires : tie.Need-count-of-requires
-count-of-requires c κs = omega (arith, book-long (record { form = form-is c; count-is = book-count _ }))
+count-in-requires : tie.Need-count-in-requires
+count-in-requires c κs = form-is c
+
+nodes-from-requires : tie.Need-nodes-from-requires
+nodes-from-requires c κs = form-is (c .before .before .before .before .before)
 
 slice-aggregate-lowest-unused : tie.Need-slice-aggregate-lowest-unused
 slice-aggregate-lowest-unused c = search needs
@@ -55,19 +58,24 @@ returns-2 c =
 
 least-facts-requires : tie.Need-least-facts-requires
 least-facts-requires c κs =
-    let counted = c .before .before .before .before .before in
-    let entry = counted .before .before .before .before .before .before in
-    (nodes-good (good counted), rw (counted .count-of .ensures) (entry .pre (form-is (counted .before))))
+    let found = c .before in
+    let counted = found .before .before .before .before .before in
+    let entry = counted .before .before .before .before .before .before in (
+      rw (found .nodes-from .ensures) (nodes-good (good counted)),
+      rw (counted .count-in .ensures) (entry .pre (form-is (counted .before))),
+    )
 
 judge-known-requires : tie.Need-judge-known-requires
 judge-known-requires c κs =
     let filled = c .before .before .before in
-    let tested = filled .before .before in
+    let found = filled .before .before in
+    let tested = found .before in
     let searched = tested .before .before in
     let counted = searched .before .before in
     let entry = counted .before .before .before .before .before .before in
-    let blank = rw (← counted .count-of .ensures) at (entry .pre (form-is (counted .before))) in (
-      facts-known (good counted) (omega (arith, blank .long, filled .least-facts .kept)) (filled .least-facts .ensures),
+    let blank = rw (← counted .count-in .ensures) at (entry .pre (form-is (counted .before))) in (
+      facts-known (good counted) (omega (arith, blank .long, filled .least-facts .kept))
+          (rw (← found .nodes-from .ensures) (filled .least-facts .ensures)),
       reached-all (good counted) (searched .lowest-unused .ensures) (tested .if2 .left),
     )
 
@@ -89,11 +97,12 @@ judge-spec =
     cast-verdict-of
     verdict-of-requires
     returns
-    count-of-requires
+    count-in-requires
     slice-aggregate-lowest-unused
     lowest-unused-requires
     verdict-of-requires-2
     returns-2
+    nodes-from-requires
     least-facts-requires
     judge-known-requires
     same-length

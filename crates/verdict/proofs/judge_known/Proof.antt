@@ -8,45 +8,41 @@ use mathlib.Core.Path.{_≡_, sym, ap, _∙_}
 use Rattle.kinds.specs.Kinds.{has?}
 use Rattle.rules.specs.declared.NodeFacts.{NodeFacts}
 use Rattle.rules.specs.Facts.{factsAt}
-use Rattle.book.specs.Form.{bookOf}
-use Rattle.verdict.proofs.Books.{book-start, book-long, count-small, start-below}
+use Rattle.verdict.proofs.Books.{count-small, start-below}
 use Rattle.verdict.proofs.Answers.{answered-barren, answered-conflict, answered-passes}
 use Rattle.verdict.proofs.judge_known.Statement.{statement}
 use Rattle.verdict.proofs.judge_known.Tie as tie
 
--- the start that was read
-start-is : (c : tie.After-u16-at) → c .u16-at .result ≡ bookOf (now (c .before .before .before .args .book)) .start
-start-is c = c .u16-at .ensures .0 ∙ book-start _
-
 -- what the test of the start says of the table
 test-is : (c : tie.After-has)
-    → has? (factsAt (now (c .before .before .before .before .before .args .table)) (c .before .before .u16-at .result) .productive) 0
+    → has? (factsAt (now (c .before .before .before .before .before .args .table)) (c .before .before .start-in .result) .productive) 0
     ≡ c .has .result
 test-is c = sym (c .has .ensures ∙ ap (λ (f : NodeFacts). has? (f .productive) 0) (c .before .facts-at .ensures))
 
-add-u16-at : tie.Need-add-u16-at
-add-u16-at c = search needs
-
-u16-at-requires : tie.Need-u16-at-requires
-u16-at-requires c κs = omega (arith, book-long (c .before .before .pre .0 .good))
+start-in-requires : tie.Need-start-in-requires
+start-in-requires c κs = c .before .before .pre .0 .good .form
 
 facts-at-requires : tie.Need-facts-at-requires
 facts-at-requires c κs =
     let known = c .before .before .before .pre .0 in
-    omega (arith, start-below (known .good) (start-is c), known .long)
+    omega (arith, start-below (known .good) (c .start-in .ensures), known .long)
 
 has-requires : tie.Need-has-requires
 has-requires c κs = search needs
 
 verdict-of-requires : tie.Need-verdict-of-requires
-verdict-of-requires c κs = search needs
+verdict-of-requires c κs =
+    let read = c .before .before .before in
+    let known = read .before .before .before .pre .0 in
+    omega (arith, start-below (known .good) (read .start-in .ensures), count-small (known .good))
 
 returns : tie.Need-returns
 returns c =
     let tested = c .before in
     let read = tested .before .before .before in
     let entry = read .before .before .before in
-    rw (c .verdict-of .ensures) (answered-barren (entry .pre .0) (start-is read) (entry .pre .1) (test-is (tested .before) ∙ not-true _ (tested .if1 .taken)))
+    rw (c .verdict-of .ensures)
+    (answered-barren (entry .pre .0) (read .start-in .ensures) (entry .pre .1) (test-is (tested .before) ∙ not-true _ (tested .if1 .taken)))
 
 lowest-conflict-requires : tie.Need-lowest-conflict-requires
 lowest-conflict-requires c κs = search needs
@@ -69,7 +65,7 @@ returns-2 c =
     let read = tested .before .before .before in
     let entry = read .before .before .before in
     rw (c .verdict-of2 .ensures)
-    (answered-conflict (entry .pre .0) (start-is read) (found .lowest-conflict .ensures) (told .before .if2 .taken)
+    (answered-conflict (entry .pre .0) (read .start-in .ensures) (found .lowest-conflict .ensures) (told .before .if2 .taken)
     (told .clash-at .ensures)
     (entry .pre .1)
     (test-is (tested .before) ∙ not-false _ (tested .if1 .left)))
@@ -84,7 +80,7 @@ returns-3 c =
     let read = tested .before .before .before in
     let entry = read .before .before .before in
     rw (c .verdict-of3 .ensures)
-    (answered-passes (entry .pre .0) (start-is read) (found .lowest-conflict .ensures) (entry .pre .1)
+    (answered-passes (entry .pre .0) (read .start-in .ensures) (found .lowest-conflict .ensures) (entry .pre .1)
     (test-is (tested .before) ∙ not-false _ (tested .if1 .left))
     (c .before .if2 .left))
 
@@ -92,8 +88,7 @@ pub judge-known-spec : {M : Type 1} → statement M
 judge-known-spec =
     tie.close
     (tie.spec
-    add-u16-at
-    u16-at-requires
+    start-in-requires
     facts-at-requires
     has-requires
     verdict-of-requires

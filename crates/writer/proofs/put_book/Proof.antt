@@ -1,80 +1,72 @@
--- `writer::put_book` meets its contract. The loop's invariant: what is left to store makes up the book's settings and nodes. The measure
--- is what is left of them.
-use Prim.Native.Nat.{_+_, _-_}
+-- `writer::put_book` meets its contract: the part of the bytes that is copied is the book's settings and nodes.
+use mathlib.Core.Path.{_≡_, ap, _∙_}
+use mathlib.Core.List.{List}
+use Prim.Native.Nat.{ℕ, _+_, _*_, _-_, _≤_}
 use native.Mathlib.Omega.{arith}
 use borrow.Author.Needs.{needs}
-use lib.ListN.{getD}
-use Rattle.book.specs.Form.{settingsAt}
-use Rattle.plan.specs.Form.{planSettingsAt}
+use denote.Ref.{now}
+use lib.ListN.{length}
+use lib.Seq.{sets}
+use Rattle.words.specs.Lists.{partAt}
+use Rattle.words.specs.Words.{Below}
+use Rattle.words.proofs.Bytes.{below-each}
+use Rattle.book.specs.Form.{DONE, settingsAt, formOf, bookOf}
+use Rattle.book.proofs.Decoded.{formed, nodes-end}
+use Rattle.book.proofs.Rebuilt.{body-part}
 use Rattle.writer.specs.Bytes.{bookBody}
-use Rattle.writer.proofs.Stored.{Stored, stored-none, stored-more, stored-copy}
 use Rattle.writer.proofs.put_book.Statement.{statement}
 use Rattle.writer.proofs.put_book.Tie as tie
 
-abbrev Inv-loop : tie.InvT-loop
-Inv-loop plan₀ book count size i₀ plan i = Stored (λ j. getD book (settingsAt + j) 0) plan₀ plan planSettingsAt size i
+-- the part from the settings on, by what was read
+part-is : (book : List ℕ) {at count : ℕ} → Below 256 book → formOf book .number ≡ DONE → count ≡ bookOf book .count → at ≡ settingsAt book
+    → partAt book at (24 + 6 * count - 20) ≡ bookBody (bookOf book)
+unfolding bookBody
+part-is book {at} {count} below form count-is at-is =
+    (λ i. partAt book (at-is i) (size i)) ∙ body-part book (formed book form) below
+  where
+    size : 24 + 6 * count - 20 ≡ 4 + 6 * bookOf book .count
+    size = omega (arith, count-is)
 
-abbrev μ-loop : tie.MeasureT-loop
-μ-loop plan₀ book count size i₀ plan i = size - i
-
-mul-size : tie.Need-mul-size Inv-loop μ-loop
+mul-size : tie.Need-mul-size
 mul-size c = search needs
 
-add-size : tie.Need-add-size Inv-loop μ-loop
+add-size : tie.Need-add-size
 add-size c = search needs
 
-sub-size : tie.Need-sub-size Inv-loop μ-loop
+sub-size : tie.Need-sub-size
 sub-size c = search needs
 
-loop-holds : tie.Need-loop-holds Inv-loop μ-loop
-loop-holds c = stored-none _ _ _ _
+settings-from-requires : tie.Need-settings-from-requires
+settings-from-requires c κs = search needs
 
-add-plan : tie.Need-add-plan Inv-loop μ-loop
-add-plan c = search needs
+copy-bytes-requires : tie.Need-copy-bytes-requires
+copy-bytes-requires c κs =
+    let found = c .before in
+    let entry = found .before .before .before in
+    omega (arith, found .settings-from .ensures, nodes-end (formed (now (entry .args .book)) (entry .pre .0 .0)), entry .pre)
 
-shared-slice-read-plan : tie.Need-shared-slice-read-plan Inv-loop μ-loop
-shared-slice-read-plan c = search needs
+same-length : tie.Need-same-length
+same-length c = search needs
 
-add-plan-2 : tie.Need-add-plan-2 Inv-loop μ-loop
-add-plan-2 c = search needs
-
-slice-write-plan : tie.Need-slice-write-plan Inv-loop μ-loop
-slice-write-plan c = search needs
-
-add-i : tie.Need-add-i Inv-loop μ-loop
-add-i c = search needs
-
-loop-less : tie.Need-loop-less Inv-loop μ-loop
-loop-less c = search needs
-
-loop-again : tie.Need-loop-again Inv-loop μ-loop
-loop-again c = stored-more _ (c .before .before .loop .inv) (c .before .loop-test .taken)
-
-same-length : tie.Need-same-length Inv-loop μ-loop
-same-length c = c .before .loop .inv .long
-
-returns : tie.Need-returns Inv-loop μ-loop
-unfolding bookBody
+returns : tie.Need-returns
 returns c =
-    let entry = c .before .before in
-    stored-copy (entry .args .book .now) _ _ (c .before .loop .inv) (c .loop-test .left) (omega arith) (entry .pre .0)
+    let copied = c .before .before in
+    let found = copied .before .before in
+    let known = found .before in
+    let entry = known .before .before in
+    copied .copy-bytes .ensures
+    ∙ ap (sets _ _)
+    (part-is (now (entry .args .book)) (below-each _ (λ i. known .shared-slice-known .given i .fits)) (entry .pre .0 .0) (entry .pre .0 .1)
+    (found .settings-from .ensures))
 
 pub put-book-spec : {M : Type 1} → statement M
 put-book-spec =
     tie.close
     (tie.spec
-    Inv-loop
-    μ-loop
     mul-size
     add-size
     sub-size
-    loop-holds
-    add-plan
-    shared-slice-read-plan
-    add-plan-2
-    slice-write-plan
-    add-i
-    loop-less
-    loop-again
+    settings-from-requires
+    copy-bytes-requires
     same-length
     returns)

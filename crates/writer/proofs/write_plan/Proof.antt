@@ -1,7 +1,7 @@
 -- `writer::write_plan` meets its contract: the parts stored one behind the other are the plan.
 use native.Mathlib.Omega.{arith}
 use borrow.Author.Needs.{needs}
-use Rattle.writer.proofs.Writing.{few-kinds, small-size, body-within, rows-within, rows-ready, plan-written}
+use Rattle.writer.proofs.Writing.{few-kinds, small-size, rows-within, rows-ready, plan-written}
 use Rattle.writer.proofs.write_plan.Statement.{statement}
 use Rattle.writer.proofs.write_plan.Tie as tie
 
@@ -13,7 +13,7 @@ put-plan-contents-requires c κs =
 put-book-requires : tie.Need-put-book-requires
 put-book-requires c κs =
     let ready = c .before .before .before .before .before .before .before .before .pre .0 in
-    (body-within ready, omega (arith, rows-within ready))
+    ((ready .form, ready .count-is), omega (arith, rows-within ready))
 
 -- the contents have been written, then settings and nodes; and where the function began
 abbrev begun : tie.After-put-book → tie.After-put-plan-contents

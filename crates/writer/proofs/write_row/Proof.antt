@@ -8,8 +8,11 @@ use Rattle.writer.proofs.Writing.{few-kinds, row-fits, left-small, row-
 use Rattle.writer.proofs.write_row.Statement.{statement}
 use Rattle.writer.proofs.write_row.Tie as tie
 
-node-at-requires : tie.Need-node-at-requires
-node-at-requires c κs = search needs
+node-in-requires : tie.Need-node-in-requires
+node-in-requires c κs =
+    let entry = c .before .before .before in
+    let ready = entry .pre .0 in
+    (ready .form, rw (ready .count-is) at (entry .pre .1))
 
 left-of-requires : tie.Need-left-of-requires
 left-of-requires c κs = search needs
@@ -23,7 +26,7 @@ facts-at-requires-2 c κs =
     let read = sided .before in
     let entry = read .before .before .before .before in
     let small : sided .left-of .result < entry .args .count =
-    rw (sided .left-of .ensures) (left-small (entry .pre .0) (entry .pre .1) (read .node-at .ensures)) in
+    rw (sided .left-of .ensures) (left-small (entry .pre .0) (entry .pre .1) (read .node-in .ensures)) in
     omega (arith, entry .pre .0 .table-long)
 
 has-requires : tie.Need-has-requires
@@ -66,7 +69,7 @@ returns c =
     let entry = read .before .before .before .before in
     stored .put-row .ensures
     ∙ ap (sets _ _)
-    (row-is (entry .pre .0) (entry .pre .1) (read .node-at .ensures) (sided .left-of .ensures) (own .facts-at .ensures) (beside .facts-at2 .ensures)
+    (row-is (entry .pre .0) (entry .pre .1) (read .node-in .ensures) (sided .left-of .ensures) (own .facts-at .ensures) (beside .facts-at2 .ensures)
     (near .one-cell .ensures) (far .far-cell .ensures)
     (skipped .cell-if2 .ensures ∙ rw (skipped .before .has2 .ensures))
     (marked .cell-if .ensures ∙ rw (marked .before .has .ensures)))
@@ -75,7 +78,7 @@ pub write-row-spec : {M : Type 1} → statement M
 write-row-spec =
     tie.close
     (tie.spec
-    node-at-requires
+    node-in-requires
     left-of-requires
     facts-at-requires
     facts-at-requires-2

@@ -1,11 +1,13 @@
 -- The first number at which a test fails: how a search for it goes on, and what its answer says.
-use mathlib.Core.Path.{_≡_, refl, _∙_}
-use mathlib.Core.Bool.{Bool, true, false}
+use mathlib.Core.Path.{_≡_, refl, sym, ap, _∙_}
+use mathlib.Core.Bool.{Bool, true, false, cond}
 use Prim.Native.Nat.{ℕ, zero, suc, _+_, _-_, _≤_, _<_}
 use native.Mathlib.Decide.{ℕ-discrete}
 use native.Mathlib.Numerals.{add-one}
 use native.Mathlib.Omega.{arith}
-use Rattle.book.specs.Decode.{firstBad}
+use borrow.Author.Tests.{leb-true, le-leb, lt-leb}
+use lib.Dec.{leb}
+use Rattle.words.specs.Lists.{firstBad, every}
 
 module _ (good : ℕ → Bool) where
   -- a search that has come to n, of `count`, has so much left to do
@@ -58,6 +60,19 @@ module _ (good : ℕ → Bool) where
   pub first-none : (count : ℕ) → count ≤ firstBad good count 0 → (n : ℕ) → n < count → good n ≡ true
   first-none count past n below = first-good count 0 (omega arith) n (omega arith) (omega arith)
 
+  -- a search ends at its last number
+  first-last : (left n : ℕ) → firstBad good left n ≤ n + left
+  unfolding firstBad
+  first-last zero n = omega arith
+  first-last (suc left) n = go (good n) (first-last left (suc n))
+    where
+      go : (b : Bool) → firstBad good left (suc n) ≤ suc n + left → cond b (firstBad good left (suc n)) n ≤ n + suc left
+      go true rest = omega arith
+      go false rest = omega arith
+
+  pub first-most : (count : ℕ) → firstBad good count 0 ≤ count
+  first-most count = omega (arith, first-last count 0)
+
   -- where each number looked at is good, the search finds none
   none-found : (left n : ℕ) → ((m : ℕ) → n ≤ m → m < n + left → good m ≡ true) → firstBad good left n ≡ n + left
   unfolding firstBad
@@ -67,3 +82,34 @@ module _ (good : ℕ → Bool) where
 
   pub first-past : (count : ℕ) → ((n : ℕ) → n < count → good n ≡ true) → firstBad good count 0 ≡ count
   first-past count each = none-found count 0 (λ m from below. each m (omega arith)) ∙ omega arith
+
+  -- a search that finds a number stops before the count
+  pub searched-within : {count n : ℕ} → Searched count n → n < count → good n ≡ false → every good count ≡ false
+  unfolding every
+  searched-within {count} {n} s below not-good = rw (← searched-bad s below not-good) (lt-leb count n below)
+
+  -- a search that has come to the count finds none
+  pub searched-every : {count n : ℕ} → Searched count n → count ≤ n → every good count ≡ true
+  unfolding every
+  searched-every {count} {n} s past = rw (← searched-all s past) (le-leb count n past)
+
+  -- every number below a count passes the test
+  pub every-is : (count : ℕ) → every good count ≡ true → (n : ℕ) → n < count → good n ≡ true
+  unfolding every
+  every-is count all = first-none count (leb-true _ _ all)
+
+  pub every-good : (count : ℕ) → ((n : ℕ) → n < count → good n ≡ true) → every good count ≡ true
+  unfolding every
+  every-good count each = rw (first-past count each) (le-leb count count (omega arith))
+
+-- tests that agree below a count find the same
+module _ (good other : ℕ → Bool) where
+  first-same : (left n : ℕ) → ((m : ℕ) → n ≤ m → m < n + left → good m ≡ other m) → firstBad good left n ≡ firstBad other left n
+  unfolding firstBad
+  first-same zero n agree = refl
+  first-same (suc left) n agree =
+      rw (agree n (omega arith) (omega arith), first-same left (suc n) (λ m from below. agree m (omega arith) (omega arith)))
+
+  pub every-same : (count : ℕ) → ((n : ℕ) → n < count → good n ≡ other n) → every good count ≡ every other count
+  unfolding every
+  every-same count agree = ap (leb count) (first-same count 0 (λ m from below. agree m (omega arith)))

@@ -1,0 +1,5 @@
+pub mod Answers
+pub mod Laid
+pub mod Moved
+pub mod Parts
+pub mod SameNames
