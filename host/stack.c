@@ -51,6 +51,23 @@ typedef drumbook_written move(const uint8_t *, size_t, const uint8_t *, size_t, 
 static move *volatile forward_call, *volatile back_call;
 static drumbook_part (*volatile name_call)(const uint8_t *, size_t, const uint8_t *, size_t, uint32_t);
 
+static drumbook_written (*volatile sheet_call)(const uint8_t *, size_t, uint8_t *, size_t);
+static drumbook_written (*volatile place_call)(const uint8_t *, size_t, uint32_t);
+
+/* Makes nothing of a sheet. */
+static drumbook_written no_sheet(const uint8_t *sheet, size_t sheet_len, uint8_t *to, size_t to_len)
+{
+    (void)sheet, (void)sheet_len, (void)to, (void)to_len;
+    return (drumbook_written){0, 0, 0};
+}
+
+/* Looks no place up. */
+static drumbook_written no_place(const uint8_t *sheet, size_t sheet_len, uint32_t node)
+{
+    (void)sheet, (void)sheet_len, (void)node;
+    return (drumbook_written){0, 0, 0};
+}
+
 /* Moves nothing. */
 static drumbook_written no_move(const uint8_t *book, size_t book_len, const uint8_t *list, size_t list_len,
                                 uint8_t *to, size_t to_len)
@@ -124,6 +141,17 @@ static uint32_t names(const input *given)
     return name_call(given->bytes, given->length, house, sizeof house, 63).from;
 }
 
+/* Makes a book of a sheet, and looks a node's place up. */
+static uint32_t sheets(const input *given)
+{
+    return sheet_call(given->bytes, given->length, moved, sizeof moved).number;
+}
+
+static uint32_t places(const input *given)
+{
+    return place_call(given->bytes, given->length, 0).number;
+}
+
 /* Makes the current call. */
 static void make(void)
 {
@@ -158,10 +186,12 @@ static size_t taken(void)
 {
     form_call = drumbook_form, compile_call = drumbook_compile, read_call = drumbook_read;
     forward_call = drumbook_forward, back_call = drumbook_back, name_call = drumbook_name;
+    sheet_call = drumbook_sheet, place_call = drumbook_sheet_place;
     make();
     size_t all = most_written();
     form_call = no_form, compile_call = no_compile, read_call = no_read;
     forward_call = no_move, back_call = no_move, name_call = no_name;
+    sheet_call = no_sheet, place_call = no_place;
     uint32_t number = answered;
     size_t way = most_written();
     answered = number;
@@ -197,6 +227,22 @@ static void write_house(void)
     }
 }
 
+/* Writes a sheet whose parentheses nest 32 deep, and which makes 511 nodes. */
+static size_t write_sheet(char *sheet)
+{
+    char *at = sheet;
+    at += sprintf(at, "a = ");
+    for (int n = 0; n < 32; n++)
+        *at++ = '(';
+    *at++ = 'b';
+    for (int n = 0; n < 32; n++)
+        *at++ = ')';
+    for (int n = 0; n < 255; n++)
+        at += sprintf(at, " b");
+    at += sprintf(at, " ;");
+    return (size_t)(at - sheet);
+}
+
 int main(void)
 {
     static const uint8_t run[] = {0, 1, 2}, zero[] = {0};
@@ -205,6 +251,8 @@ int main(void)
     write_book(middle, sizeof middle);
     write_book(large, sizeof large);
     write_house();
+    static char sheet[1024];
+    size_t sheet_size = write_sheet(sheet);
     size_t named_size = drumbook_forward(large, sizeof large, house, sizeof house, named, sizeof named).size;
     memcpy(damaged, rinse, sizeof rinse);
     damaged[0] = 4;
@@ -227,6 +275,9 @@ int main(void)
         {"back, the largest book", backs, {named, named_size, NULL, 0}, DRUMBOOK_DONE, 600},
         {"name, in the house list", names, {large, sizeof large, NULL, 0}, 2, 400},
         {"name, in the book", names, {named, named_size, NULL, 0}, 1, 400},
+        {"sheet, no bytes", sheets, {NULL, 0, NULL, 0}, DRUMBOOK_SHEET, 48000},
+        {"sheet, 511 nodes, 32 deep", sheets, {(uint8_t *)sheet, sheet_size, NULL, 0}, DRUMBOOK_DONE, 48000},
+        {"sheet place, the same", places, {(uint8_t *)sheet, sheet_size, NULL, 0}, DRUMBOOK_DONE, 48000},
     };
     int failed = 0;
     for (size_t i = 0; i < sizeof rows / sizeof *rows; i++) {

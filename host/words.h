@@ -30,6 +30,10 @@ static inline const char *words(uint32_t number)
         [20] = "KEPT: names would be lost",
         [21] = "OUT ROOM: the buffer is shorter than what is to be written",
         [22] = "UNUSED: the start does not reach a node",
+        [26] = "SHEET: the text is no sheet",
+        [27] = "TWICE: a rule's name comes again",
+        [28] = "BIG: over 512 nodes or 64 kinds",
+        [29] = "KINDLESS: no event kind",
     };
     return number < sizeof said / sizeof *said && said[number] ? said[number] : "no such answer";
 }

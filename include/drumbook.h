@@ -63,7 +63,12 @@ enum {
                                  the later, or how many names there are where bytes are left over */
     DRUMBOOK_KEPT = 20,       /* moving back would lose names: they are not the first of the house list */
     DRUMBOOK_OUT_ROOM = 21,   /* the buffer is shorter than what is to be written */
-    DRUMBOOK_UNUSED = 22      /* the start does not reach every node; place: the lowest unreachable node */
+    DRUMBOOK_UNUSED = 22,     /* the start does not reach every node; place: the lowest unreachable node */
+    DRUMBOOK_SHEET = 26,      /* the text is no sheet; place: the first byte at which no sheet begins so, or its length
+                                 where more is due */
+    DRUMBOOK_TWICE = 27,      /* a rule's name comes again; place: where it first does */
+    DRUMBOOK_BIG = 28,        /* the sheet's book would have over 512 nodes or 64 kinds */
+    DRUMBOOK_KINDLESS = 29    /* the sheet has no event kind at all */
 };
 
 enum {
@@ -159,6 +164,22 @@ typedef struct {
  */
 drumbook_part drumbook_name(const uint8_t *book, size_t book_len, const uint8_t *house, size_t house_len,
                             uint32_t kind);
+
+/*
+ * Makes a book with names of a sheet (docs/SHEETS.md): any bytes, of any length. Answers the first of 26, 27, 28, 29
+ * and 21, or DRUMBOOK_DONE with the book in the first size bytes; all other bytes are zero. The compiler judges the
+ * book afterwards. DRUMBOOK_LARGEST_BOOK bytes of room always suffice. Takes up to 46 KB of
+ * stack, where parentheses nest 32 deep, and 25 KB where none does; drumbook_sheet_place likewise.
+ */
+drumbook_written drumbook_sheet(const uint8_t *sheet, size_t sheet_len, uint8_t *book, size_t book_len);
+
+/*
+ * Says from which byte of a sheet a node of its book comes, since the compiler's places are nodes: a word or `empty`
+ * its first byte, an either its `|`, a then the first byte of its further factor, the four nodes of a star the `*`.
+ * Answers DRUMBOOK_DONE with the byte as place; the sheet's own refusal, 26 to 29; or DRUMBOOK_NODE, with the number
+ * of nodes as place, for a node that the book does not have. The size is 0.
+ */
+drumbook_written drumbook_sheet_place(const uint8_t *sheet, size_t sheet_len, uint32_t node);
 
 #ifdef __cplusplus
 }

@@ -21,6 +21,10 @@ pub const NAMES: u32 = 19;
 pub const KEPT: u32 = 20;
 pub const OUT_ROOM: u32 = 21;
 pub const UNUSED: u32 = 22;
+pub const SHEET: u32 = 26;
+pub const TWICE: u32 = 27;
+pub const BIG: u32 = 28;
+pub const KINDLESS: u32 = 29;
 
 /// Stands beside the answer numbers for the listing program's message that its input is too long.
 pub const INPUT_TOO_LONG: u32 = 62;

@@ -16,6 +16,7 @@ pub mod pair;
 pub mod program;
 pub mod read;
 pub mod recognise;
+pub mod sheet;
 pub mod smaller;
 pub mod worked;
 
@@ -52,6 +53,10 @@ mod tests {
             ("KEPT", KEPT),
             ("OUT_ROOM", OUT_ROOM),
             ("UNUSED", UNUSED),
+            ("SHEET", SHEET),
+            ("TWICE", TWICE),
+            ("BIG", BIG),
+            ("KINDLESS", KINDLESS),
         ];
         for (name, number) in later {
             assert_eq!(named(name), number, "{name}");

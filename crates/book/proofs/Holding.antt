@@ -95,7 +95,7 @@ module _ (b : Book) where
   unfolding bodyWords
   body-long = omega (arith, length-lists node-list 3 (λ n. length-node (b .node n)) (b .count) 0)
 
-  body-small : WellFormed b → Small (bodyWords b)
+  pub body-small : WellFormed b → Small (bodyWords b)
   unfolding bodyWords
   body-small w =
       below-more {n = b .kinds} (omega (arith, w .few-kinds))

@@ -7,6 +7,7 @@ ghost use Rattle.moves.specs.Moves.{forwardOf, backOf};
 ghost use Rattle.moves.specs.Look.{partOf};
 ghost use Rattle.compiler.specs.Compiles.{Compiles};
 ghost use Rattle.reader.specs.Reads.{Reads};
+ghost use Rattle.making.specs.Makes.{out, Makes, Places};
 use book::Judged;
 use compiler::Compiled;
 use moves::Part;
@@ -68,4 +69,20 @@ pub extern "C" fn drumbook_name(book: &[u8], house: &[u8], kind: u32) -> Part
     ensures { λ r. ⌜ r ≡ partOf (now (book .entry)) (now (house .entry)) kind ⌝ }
 {
     moves::name_part(book, house, kind)
+}
+
+// Makes a book with names of a sheet, for any bytes and any room: done, 26 to 29 or 21; the book, or zeros.
+#[no_mangle]
+pub extern "C" fn drumbook_sheet(sheet: &[u8], book: &mut [u8]) -> Written
+    ensures { λ r. ⌜ Makes (now (sheet .entry)) (length (now (book .entry))) (out r (now (book .exit))) ⌝ }
+{
+    making::make(sheet, book)
+}
+
+// The place of the text from which a node of a sheet's book comes, for any bytes and any node: done, 26 to 29 or 4.
+#[no_mangle]
+pub extern "C" fn drumbook_sheet_place(sheet: &[u8], node: u32) -> Written
+    ensures { λ r. ⌜ Places (now (sheet .entry)) node r ⌝ }
+{
+    making::place(sheet, node)
 }

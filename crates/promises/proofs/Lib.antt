@@ -5,3 +5,4 @@ mod Meant
 mod More
 mod Outcomes
 mod Readers
+pub mod Sheets

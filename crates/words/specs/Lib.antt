@@ -1,2 +1,3 @@
+pub mod Beginnings
 pub mod Lists
 pub mod Words

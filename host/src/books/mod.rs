@@ -10,4 +10,5 @@ pub mod named;
 pub mod random;
 pub mod runs;
 pub mod shapes;
+pub mod sheets;
 pub mod small;

@@ -8,6 +8,7 @@ pub mod listing;
 pub mod moves;
 pub mod name;
 pub mod read;
+pub mod sheet;
 pub mod sorts;
 
 use crate::answers::{Compiled, Reading};
@@ -23,13 +24,15 @@ pub type Compile = fn(&[u8], &mut [u8]) -> Compiled;
 pub type Read = fn(&[u8], &[u8], &mut [u16], &mut [u16]) -> Reading;
 
 /// All calls; a call's place here is its number.
-pub static CALLS: [&Call; 7] = [
+pub static CALLS: [&Call; 9] = [
     &form::FORM,
     &compile::COMPILE,
     &read::READ,
     &moves::FORWARD,
     &moves::BACK,
     &name::NAME,
+    &sheet::MAKE,
+    &sheet::PLACE,
     &listing::LISTING,
 ];
 

@@ -69,6 +69,20 @@ pub static OUT: Sort = Sort {
     most: MOST,
 };
 
+/// A sheet, or what is given as one.
+pub static SHEET_TEXT: Sort = Sort {
+    name: "sheet",
+    way: Way::Read(smaller_bytes),
+    most: MOST,
+};
+
+/// A node's number.
+pub static NODE_NUMBER: Sort = Sort {
+    name: "node",
+    way: Way::Number,
+    most: 0,
+};
+
 /// A kind.
 pub static KIND: Sort = Sort {
     name: "kind",

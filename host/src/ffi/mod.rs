@@ -5,4 +5,5 @@ pub mod form;
 pub mod lent;
 pub mod moves;
 pub mod read;
+pub mod sheet;
 pub mod vast;

@@ -1,0 +1,4 @@
+pub mod Makes
+pub mod Bytes
+pub mod Settled
+pub mod Made

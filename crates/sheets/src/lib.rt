@@ -1,0 +1,1 @@
+// Sheets: their text, their rules, the nodes made of them and the runs they mean: no code.

@@ -1,0 +1,3 @@
+pub mod Running
+pub mod States
+pub mod Words
