@@ -8,7 +8,8 @@ use lib.ListN.{length, take, getD}
 use Rattle.words.specs.Words.{zeros, Below}
 use Rattle.kinds.proofs.Laws.{same-kinds}
 use Rattle.names.specs.Names.{GoodNames, HOUSE-NAMES, namesOf}
-use Rattle.written.specs.Written.{OUT-ROOM, handed, taken as writtenBytes, Settled}
+use Rattle.written.specs.Written.{OUT-ROOM, Out, handed, taken as writtenBytes, Settled}
+use Rattle.written.specs.declared.Written.{Written}
 use Rattle.book.specs.Book.{Book, WellFormed}
 use Rattle.book.specs.Encode.{bookBytes, namedBytes}
 use Rattle.book.specs.declared.Node.{Node}
@@ -42,6 +43,13 @@ use Rattle.reader.specs.Reads.{Reads}
 use Rattle.reader.proofs.Answers.{reads-unique}
 use Rattle.meaning.specs.Meaning.{tree, NextKinds}
 use Rattle.meaning.proofs.Walks.{walks-take}
+use Rattle.sheets.specs.Grammar.{Rule, Sheet}
+use Rattle.sheets.specs.Meaning.{SheetMeans}
+use Rattle.sheets.specs.Made.{SHEET}
+use Rattle.syntax.proofs.Outcomes.{sheet-once}
+use Rattle.making.specs.Makes.{Makes, Places}
+use Rattle.making.specs.Made.{BookMade, MakeAnswers, NoSheetAt}
+use Rattle.making.proofs.Promise.{makes-some, makes-once, places-some, places-once, make-answers, sheet-refused-at, book-made}
 use Rattle.worked.specs.Worked.{Each, Holds, table}
 use Rattle.worked.proofs.Checked.{worked}
 use Rattle.promises.specs.Promises.{CompileAnswers, ReadAnswers, PassesExactly, ClashesTold, PlanByRules, Enough, ReadsAsMeant, FewRecords, OnBiggerBoards}
@@ -252,6 +260,63 @@ module _ (bytes house : List ℕ) (kind : ℕ) where
 -- the name that the library hands back is the part that C is told
 pub name-is-the-part : (bytes house : List ℕ) (kind : ℕ) → kindName bytes house kind ≡ partBytes (partOf bytes house kind) bytes house
 name-is-the-part = name-is-part
+
+-- Sheets: every text has an answer, and one only, and so has every node's place
+pub sheet-answers-some : (text : List ℕ) (room : ℕ) → (o : Out) × Makes text room o
+sheet-answers-some text room = (makes-some text room .answer, makes-some text room .answers)
+
+pub place-answers-some : (text : List ℕ) (node : ℕ) → (a : Written) × Places text node a
+place-answers-some text node = (places-some text node .answer, places-some text node .answers)
+
+pub sheet-answer-once : (text : List ℕ) (room : ℕ) {a b : Out} → Makes text room a → Makes text room b → a ≡ b
+sheet-answer-once = makes-once
+
+pub place-answer-once : (text : List ℕ) (node : ℕ) {a b : Written} → Places text node a → Places text node b → a ≡ b
+place-answer-once = places-once
+
+-- an answer is 0, 21 or one of 26 to 29, and a refusal leaves the whole buffer zero
+pub sheet-answers : (text : List ℕ) (room : ℕ) {o : Out} → Makes text room o → MakeAnswers room o
+sheet-answers = make-answers
+
+-- 26 stands at the first byte at which no sheet begins so, or at the length where more is due, and nowhere else
+pub sheet-26 : (text : List ℕ) (room : ℕ) {o : Out} → Makes text room o → (i : ℕ)
+    → ((o .answer .number ≡ SHEET) × (o .answer .place ≡ i)) ↔ NoSheetAt text i
+sheet-26 = sheet-refused-at
+
+-- a book that is made has exactly the sheet's nodes, its names are the kinds by first appearance, and it derives exactly
+-- the runs that the sheet means
+pub sheet-book-made : (text : List ℕ) (room : ℕ) {o : Out} → Makes text room o → o .answer .number ≡ DONE → BookMade text room o
+sheet-book-made = book-made
+
+-- end to end: of a sheet whose book is made and passes, reading accepts exactly the runs that the sheet means
+module _ (text : List ℕ) {first : Rule} {further : List Rule} (sheet : Sheet text first further) (room : ℕ) (o : Out)
+    (made : Makes text room o) (whole : o .answer .number ≡ DONE) where
+  book : BookMade text room o
+  book = book-made text room made whole
+
+  -- the bytes of the book that is made
+  abbrev bytes : List ℕ
+  bytes = take (o .answer .size) (o .bytes)
+
+  first-is : book .first ≡ first
+  first-is = let once = sheet-once text (book .sheet) sheet in cc
+
+  further-are : book .further ≡ further
+  further-are = let once = sheet-once text (book .sheet) sheet in cc
+
+  means : (run : List ℕ) → Lawful (bookOf bytes) run ↔ SheetMeans first further run
+  means run = rw (first-is, further-are) at (book .book .derives run)
+
+  module _ {plan-room : ℕ} {a : Compiled} {plan : List ℕ} (compiled : Compiles bytes plan-room a plan) (passed : a .number ≡ DONE)
+      {run held space : List ℕ} {r : Reading} {held-after tree-after : List ℕ}
+      (read : Reads (take (a .size) plan) run held space r held-after tree-after) (short : length run ≤ 65535) where
+    -- given slots and tree room enough
+    pub sheet-reads : Enough bytes run held space → (r .number ≡ DONE) ↔ SheetMeans first further run
+    sheet-reads enough = Iff·trans (demand-3 compiled passed read short enough .accepts) (means run)
+
+    -- whatever the slots and the tree room, where the answer is not DEEP or NO ROOM
+    pub sheet-reads-any : r .number ≢ DEEP → r .number ≢ NO-ROOM → (r .number ≡ DONE) ↔ SheetMeans first further run
+    sheet-reads-any shallow roomy = Iff·trans (demand-3-any compiled passed read short shallow roomy .accepts) (means run)
 
 -- Demand 2 shuts out a compiler that refuses all books, one that passes all, and one that writes no plan
 module _ (answers : List ℕ → ℕ → Compiled) (plans : List ℕ → ℕ → List ℕ)

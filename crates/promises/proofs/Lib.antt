@@ -5,4 +5,3 @@ mod Meant
 mod More
 mod Outcomes
 mod Readers
-pub mod Sheets
