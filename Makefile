@@ -16,6 +16,7 @@ VERSION := $(MAJOR).$(MINOR).$(call header_number,PATCH)
 
 ARCHIVE = target/staticlib/libdrumbook.a
 LISTING = target/bin/listing
+SHEET = target/bin/sheet
 SONAME = libdrumbook.so.$(MAJOR).$(MINOR)
 SHARED = target/shared/libdrumbook.so.$(VERSION)
 EXAMPLES = target/examples
@@ -26,7 +27,7 @@ sources = crates.txt $(shell find $(call folders,$(1)) -name must-fail -prune -o
 
 export CC PREFIX DESTDIR VERSION SONAME
 
-.PHONY: run run-python stack test archive shared listing bench fuzz faults census
+.PHONY: run run-sheet run-python stack test archive shared listing sheet bench fuzz faults census
 .PHONY: prefix current install install-shared uninstall clean help
 .NOTPARALLEL:
 .SECONDARY:
@@ -35,6 +36,10 @@ export CC PREFIX DESTDIR VERSION SONAME
 ## run: the listing program on the rinse book and the run 0 1 2
 run: $(LISTING)
 	@$(LISTING) < crates/listing/stdin
+
+## run-sheet: the program `sheet` on the rinse book's sheet
+run-sheet: $(SHEET)
+	@$(SHEET) < crates/sheet/stdin
 
 ## run-example: compile a book from C, read runs, print a tree and refusals (run-form, run-refused: two more)
 run-%: $(EXAMPLES)/%
@@ -61,12 +66,19 @@ shared: $(SHARED)
 ## listing: target/bin/listing, the proved listing program
 listing: $(LISTING)
 
+## sheet: target/bin/sheet, the proved program that tells a sheet's book, or where the sheet goes wrong
+sheet: $(SHEET)
+
 $(ARCHIVE): $(call sources,drumbook)
 	@scripts/prove staticlib drumbook
 	@touch $@
 
 $(LISTING): $(call sources,listing)
 	@scripts/prove check listing
+	@touch $@
+
+$(SHEET): $(call sources,sheet)
+	@scripts/prove check sheet
 	@touch $@
 
 $(SHARED): $(ARCHIVE) include/drumbook.h scripts/shared

@@ -22,6 +22,8 @@ enum {
     MOST_PLAN = 36376,
     MOST_SLOTS = 32768,
     MOST_ROOM = 1 << 20,
+    MOST_SHEET = 1 << 20,
+    MOST_NAMED = 4184,
     GARBAGE = 0xA5,
     SAMPLES = 200,
     SAMPLE_NS = 1000000
@@ -81,6 +83,9 @@ typedef struct {
 static book current;
 static run events;
 static uint8_t plan[MOST_PLAN], made[MOST_PLAN], wanted[MOST_PLAN];
+static char sheet[MOST_SHEET + 32];
+static size_t sheet_len;
+static uint8_t named[MOST_NAMED];
 static uint16_t held[MOST_SLOTS], tree[MOST_ROOM], wanted_held[MOST_SLOTS], wanted_tree[MOST_ROOM];
 
 /* Writes a 16-bit number, low byte first. */
@@ -391,6 +396,88 @@ static void read_rows(void)
     read_row("read, 511 nodes to each of 2000 events", winding(), 2);
 }
 
+/* A word of three letters with a number. */
+static const char *word(size_t number)
+{
+    static char letters[4];
+    for (size_t i = 0; i < 3; i++, number /= 26)
+        letters[2 - i] = (char)('a' + number % 26);
+    return letters;
+}
+
+/* A sheet of 512 nodes: 256 words of so many kinds, and a rule of one word. */
+static void words_sheet(size_t kinds)
+{
+    sheet_len = (size_t)sprintf(sheet, "wash =");
+    for (size_t n = 0; n < 256; n++)
+        sheet_len += (size_t)sprintf(sheet + sheet_len, " %s", word(n % kinds));
+    sheet_len += (size_t)sprintf(sheet + sheet_len, " ;\nrinse = %s ;\n", word(0));
+}
+
+/* A text of so many bytes: a sheet, blanks, and a last byte that has no place there. */
+static void wrong_at_the_end(size_t length)
+{
+    memset(sheet, ' ', length);
+    memcpy(sheet, "wash = fill* tip ;", 18);
+    sheet[length - 1] = '*';
+    sheet_len = length;
+}
+
+/* A sheet of about so many bytes: one rule of words. */
+static void long_rule(size_t length)
+{
+    sheet_len = (size_t)sprintf(sheet, "wash =");
+    while (sheet_len < length - 8)
+        sheet_len += (size_t)sprintf(sheet + sheet_len, " tip");
+    sheet_len += (size_t)sprintf(sheet + sheet_len, " ;");
+}
+
+/* A sheet of about so many bytes: short rules, each with a name of its own. */
+static void many_rules(size_t length)
+{
+    sheet_len = 0;
+    for (size_t n = 0; sheet_len < length - 8; n++)
+        sheet_len += (size_t)sprintf(sheet + sheet_len, "%s=b;", word(n));
+}
+
+/* Measures the current sheet; it is answered by this number. */
+static void sheet_row(const char *name, uint32_t number)
+{
+    double best = 1e18;
+    for (size_t sample = 0; sample < SAMPLES && (sample < 3 || best < 1e8); sample++) {
+        double before = now();
+        size_t count = best < SAMPLE_NS ? 1 + (size_t)(SAMPLE_NS / best) : 1;
+        for (size_t i = 0; i < count; i++)
+            must(drumbook_sheet((uint8_t *)sheet, sheet_len, named, sizeof named).number == number, name, &builds[0]);
+        double t = (now() - before) / (double)count;
+        if (t < best)
+            best = t;
+    }
+    printf("%-41s %11.0f %9zu %9.2f\n", name, best, sheet_len, best / (double)sheet_len);
+}
+
+/* Measures sheets, beside which there is no C code. */
+static void sheet_rows(void)
+{
+    printf("\n%-41s %11s %9s %9s\n", "sheets", "ours, ns", "bytes", "ns/byte");
+    words_sheet(1);
+    sheet_row("sheet, 512 nodes, 1 kind", DONE);
+    words_sheet(64);
+    sheet_row("sheet, 512 nodes, 64 kinds", DONE);
+    for (size_t length = 1 << 10; length <= MOST_SHEET; length *= 32) {
+        wrong_at_the_end(length);
+        sheet_row("sheet, refused at its last byte", DRUMBOOK_SHEET);
+    }
+    for (size_t length = 1 << 15; length <= MOST_SHEET; length *= 32) {
+        long_rule(length);
+        sheet_row("sheet, one rule, over 512 nodes", DRUMBOOK_BIG);
+    }
+    for (size_t length = 1 << 12; length <= 1 << 16; length *= 4) {
+        many_rules(length);
+        sheet_row("sheet, rules of 6 bytes, no name twice", DRUMBOOK_BIG);
+    }
+}
+
 int main(void)
 {
     printf("%-41s %9s %9s %6s %9s %9s  %s\n", "best of many, clearing included", "ours, ns", "C, ns", "ratio",
@@ -398,5 +485,6 @@ int main(void)
     compile_rows();
     test_rows();
     read_rows();
+    sheet_rows();
     return 0;
 }

@@ -227,7 +227,7 @@ static void write_house(void)
     }
 }
 
-/* Writes a sheet whose parentheses nest 32 deep, and which makes 511 nodes. */
+/* Writes a sheet whose parentheses nest 32 deep, and which makes 512 nodes. */
 static size_t write_sheet(char *sheet)
 {
     char *at = sheet;
@@ -239,7 +239,7 @@ static size_t write_sheet(char *sheet)
         *at++ = ')';
     for (int n = 0; n < 255; n++)
         at += sprintf(at, " b");
-    at += sprintf(at, " ;");
+    at += sprintf(at, " ; c = b ;");
     return (size_t)(at - sheet);
 }
 
@@ -276,7 +276,7 @@ int main(void)
         {"name, in the house list", names, {large, sizeof large, NULL, 0}, 2, 400},
         {"name, in the book", names, {named, named_size, NULL, 0}, 1, 400},
         {"sheet, no bytes", sheets, {NULL, 0, NULL, 0}, DRUMBOOK_SHEET, 48000},
-        {"sheet, 511 nodes, 32 deep", sheets, {(uint8_t *)sheet, sheet_size, NULL, 0}, DRUMBOOK_DONE, 48000},
+        {"sheet, 512 nodes, 32 deep", sheets, {(uint8_t *)sheet, sheet_size, NULL, 0}, DRUMBOOK_DONE, 48000},
         {"sheet place, the same", places, {(uint8_t *)sheet, sheet_size, NULL, 0}, DRUMBOOK_DONE, 48000},
     };
     int failed = 0;

@@ -17,6 +17,7 @@ pub mod program;
 pub mod read;
 pub mod recognise;
 pub mod sheet;
+pub mod shown;
 pub mod smaller;
 pub mod worked;
 

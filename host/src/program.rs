@@ -1,4 +1,4 @@
-//! The listing program, run on inputs that reach it through a pipe.
+//! The programs, run on inputs that reach them through a pipe.
 
 use crate::answers::{DONE, INPUT_TOO_LONG, INPUT_TOO_SHORT};
 use crate::books::random::Random;
@@ -11,11 +11,15 @@ use std::path::PathBuf;
 use std::process::{Child, ChildStdin, Command, Stdio};
 use std::thread::yield_now;
 
-/// The environment variable that names the program, where it stands elsewhere.
-const PROGRAM: &str = "DRUMBOOK_LISTING";
-
-/// The program's place, where the variable is not set.
-const PLACE: &str = concat!(env!("CARGO_MANIFEST_DIR"), "/../target/bin/listing");
+/// The environment variables that name the programs, where they stand elsewhere, and their places where none is set.
+const LISTING: (&str, &str) = (
+    "DRUMBOOK_LISTING",
+    concat!(env!("CARGO_MANIFEST_DIR"), "/../target/bin/listing"),
+);
+const SHEET: (&str, &str) = (
+    "DRUMBOOK_SHEET",
+    concat!(env!("CARGO_MANIFEST_DIR"), "/../target/bin/sheet"),
+);
 
 /// After this many seconds a run of the program is ended.
 const PATIENCE: u32 = 10;
@@ -87,17 +91,27 @@ impl Printed {
     }
 }
 
-/// The listing program.
+/// One of the programs.
 #[derive(Clone, Debug)]
 pub struct Program {
     path: PathBuf,
 }
 
 impl Program {
-    /// The program that is to be tested.
+    /// The listing program that is to be tested.
     pub fn under_test() -> Program {
-        let path = env::var_os(PROGRAM).map_or_else(|| PathBuf::from(PLACE), PathBuf::from);
-        assert!(path.is_file(), "no listing program at {}", path.display());
+        Program::at(LISTING)
+    }
+
+    /// The program `sheet` that is to be tested.
+    pub fn sheet_under_test() -> Program {
+        Program::at(SHEET)
+    }
+
+    /// The program that a variable names, or that stands at a place.
+    fn at((variable, place): (&str, &str)) -> Program {
+        let path = env::var_os(variable).map_or_else(|| PathBuf::from(place), PathBuf::from);
+        assert!(path.is_file(), "no program at {}", path.display());
         Program { path }
     }
 
@@ -123,7 +137,7 @@ impl Program {
                 Ok(())
             });
         }
-        command.spawn().expect("the listing program starts")
+        command.spawn().expect("the program starts")
     }
 }
 

@@ -36,7 +36,7 @@ pub fn put_bytes(out: &mut [u8], at: usize, bytes: &[u8]) -> usize
 }
 
 // Puts a number's decimal digits at a place, and answers the place after them.
-fn put_number(out: &mut [u8], at: usize, value: u64) -> usize
+pub fn put_number(out: &mut [u8], at: usize, value: u64) -> usize
     requires { ⌜ at + length (digitsOf value) ≤ length (now out) ⌝ }
     ensures { λ r. ⌜ Put (now (out .entry)) (now (out .exit)) at r (digitsOf value) ⌝ }
 {

@@ -32,7 +32,7 @@ use verdict::CONFLICT;
 use words::u16_at;
 
 // The longest book, and the room for events.
-const LONGEST_BOOK: usize = 4184;
+pub const LONGEST_BOOK: usize = 4184;
 
 const EVENT_ROOM: usize = 4096;
 
@@ -161,7 +161,7 @@ const INPUT_ROOM: usize = 8283;
 
 const OUT_ROOM: usize = 57393;
 
-const PLAN_ROOM: usize = 36376;
+pub const PLAN_ROOM: usize = 36376;
 
 const SLOT_ROOM: usize = 512;
 

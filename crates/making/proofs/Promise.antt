@@ -5,17 +5,20 @@ use mathlib.Core.Logic.{_↔_, _≢_, _⊎_, inl, inr}
 use mathlib.Core.List.{List, [], _∷_, _++_}
 use Prim.Native.Nat.{ℕ, _-_, _≤_, _<_}
 use native.Mathlib.Omega.{arith}
-use borrow.Author.Tests.{leb-true, eqb-true, eqb-false}
+use borrow.Author.Tests.{leb-true, leb-false, eqb-true, eqb-false}
 use lib.Dec.{leb, eqb}
 use lib.ListN.{length, take, drop, length-append, length-replicate}
 use lib.Seq.{take-append-seam, drop-append-seam}
 use Rattle.words.specs.Beginnings.{Parts, Lacks}
 use Rattle.words.specs.Words.{zeros}
-use Rattle.written.specs.Written.{Out, written, withZeros, handed, handedOver, refusedWith, OUT-ROOM}
+use Rattle.written.specs.Written.{Out, written, withZeros, handed, handedOver, refusedWith, taken, OUT-ROOM}
 use Rattle.written.specs.declared.Written.{Written}
-use Rattle.book.specs.Form.{DONE}
+use Rattle.book.specs.Form.{DONE, named}
 use Rattle.book.specs.Encode.{namedBytes}
-use Rattle.book.proofs.Encoded.{named-has-bytes}
+use Rattle.book.proofs.Encoded.{named-has-bytes, named-are-named}
+use Rattle.book.proofs.Decoded.{formed}
+use Rattle.book.proofs.Laws.{length-named}
+use Rattle.book.specs.declared.Judged.{Judged as Verdict}
 use Rattle.sheets.specs.Grammar.{Rule, Sheet, IsSheet}
 use Rattle.sheets.specs.Nodes.{kindNames, sheetBook}
 use Rattle.sheets.specs.Made.{SHEET, TWICE, BIG, KINDLESS, repeats, repeatedAt, tooBig}
@@ -67,7 +70,8 @@ data Outcome (text : List ℕ) (room : ℕ) (o : Out) : Type 0 where
   lacking : Lacks IsSheet text → o ≡ refusedWith SHEET (length text) room → Outcome text room o
   turned-down : {first : Rule} {further : List Rule} {number place : ℕ} → Sheet text first further → Refused (first ∷ further) number place
       → o ≡ refusedWith number place room → Outcome text room o
-  too-long : {first : Rule} {further : List Rule} → Sheet text first further → o ≡ refusedWith OUT-ROOM 0 room → Outcome text room o
+  too-long : {first : Rule} {further : List Rule} → Sheet text first further → Pass (first ∷ further)
+      → room < length (bookBytes first further) → o ≡ refusedWith OUT-ROOM 0 room → Outcome text room o
   done : {first : Rule} {further : List Rule} → Sheet text first further → Pass (first ∷ further)
       → length (bookBytes first further) ≤ room → o ≡ handedOver (bookBytes first further) room → Outcome text room o
 
@@ -95,7 +99,8 @@ outcome {text} room (judged {first} {further} read) = go (judge (first ∷ furth
         done read pass (leb-true _ _ fits)
         (passed-so refuse (madeOf room first further) pass ∙ handed-fits (bookBytes first further) room fits)
     handing pass false short =
-        too-long read (passed-so refuse (madeOf room first further) pass ∙ handed-short (bookBytes first further) room short)
+        too-long read pass (omega (arith, leb-false (length (bookBytes first further)) room short))
+        (passed-so refuse (madeOf room first further) pass ∙ handed-short (bookBytes first further) room short)
 
     go : Judged (first ∷ further) → Outcome text room o
     go (is-refused why) = turned-down read why (refused-so refuse (madeOf room first further) why)
@@ -123,7 +128,7 @@ book-made text room {o} makes is = go (outcome room makes)
     go (parted parts answer) = absurd (omega (arith, is, ap (λ (o : Out). o .answer .number) answer))
     go (lacking lacks answer) = absurd (omega (arith, is, ap (λ (o : Out). o .answer .number) answer))
     go (turned-down read why answer) = absurd (never-done why (sym (ap (λ (o : Out). o .answer .number) answer) ∙ is))
-    go (too-long read answer) = absurd (omega (arith, is, ap (λ (o : Out). o .answer .number) answer))
+    go (too-long read pass small answer) = absurd (omega (arith, is, ap (λ (o : Out). o .answer .number) answer))
     go (done {first} {further} read pass fits answer) =
         record {
           first = first;
@@ -136,6 +141,33 @@ book-made text room {o} makes is = go (outcome room makes)
           behind = rw answer (drop-append-seam (bookBytes first further) (zeros (room - length (bookBytes first further))));
         }
 
+-- the bytes of a sheet's book are of the form with names, and no more than the longest book has
+sheet-named : (text : List ℕ) {first : Rule} {further : List Rule} → Sheet text first further → Pass (first ∷ further)
+    → named (bookBytes first further) ≡ true
+unfolding sheetBook
+sheet-named text {first} {further} read pass =
+    named-are-named (sheetBook first further) (kindNames (first ∷ further))
+    (book-well-formed first further (pass .small) (pass .some-kind)) (kinds-good text read) refl
+
+sheet-short : (text : List ℕ) {first : Rule} {further : List Rule} → Sheet text first further → Pass (first ∷ further)
+    → length (bookBytes first further) ≤ 4184
+sheet-short text {first} {further} read pass =
+    let good = ap (λ (j : Verdict). j .number) (sheet-book text read pass .formed) in
+    length-named (bookBytes first further) (sheet-named text read pass) (formed (bookBytes first further) good .long) .1
+
+-- a book that is made is of the form with names
+pub book-named : (text : List ℕ) (room : ℕ) {o : Out} → Makes text room o → o .answer .number ≡ DONE → named (taken o) ≡ true
+book-named text room {o} makes is = go (outcome room makes)
+  where
+    go : Outcome text room o → named (taken o) ≡ true
+    go (parted parts answer) = absurd (omega (arith, is, ap (λ (o : Out). o .answer .number) answer))
+    go (lacking lacks answer) = absurd (omega (arith, is, ap (λ (o : Out). o .answer .number) answer))
+    go (turned-down read why answer) = absurd (never-done why (sym (ap (λ (o : Out). o .answer .number) answer) ∙ is))
+    go (too-long read pass small answer) = absurd (omega (arith, is, ap (λ (o : Out). o .answer .number) answer))
+    go (done {first} {further} read pass fits answer) =
+        rw (answer, take-append-seam (bookBytes first further) (zeros (room - length (bookBytes first further))))
+        (sheet-named text read pass)
+
 -- a refusal is none of 0 and 26, and at most 29
 refused-number : {rules : List Rule} {number place : ℕ} → Refused rules number place → (SHEET < number) × (number ≤ KINDLESS)
 refused-number (twice again) = (omega arith, omega arith)
@@ -144,6 +176,17 @@ refused-number (kindless once few none) = (omega arith, omega arith)
 
 number-of : {o other : Out} → o ≡ other → o .answer .number ≡ other .answer .number
 number-of is = ap (λ (o : Out). o .answer .number) is
+
+-- with room for the longest book, 21 never shows
+pub room-suffices : (text : List ℕ) (room : ℕ) {o : Out} → 4184 ≤ room → Makes text room o → o .answer .number ≢ OUT-ROOM
+room-suffices text room {o} enough makes is = go (outcome room makes)
+  where
+    go : Outcome text room o → ⊥
+    go (parted parts answer) = omega (arith, is, number-of answer)
+    go (lacking lacks answer) = omega (arith, is, number-of answer)
+    go (turned-down read why answer) = omega (arith, is, number-of answer, refused-number why)
+    go (too-long read pass small answer) = omega (arith, small, sheet-short text read pass)
+    go (done read pass fits answer) = omega (arith, is, number-of answer)
 
 -- every answer
 pub make-answers : (text : List ℕ) (room : ℕ) {o : Out} → Makes text room o → MakeAnswers room o
@@ -175,7 +218,7 @@ make-answers text room {o} makes = go (outcome room makes)
           whole = long is;
           refused-zero = λ _. cleared is;
         }
-    go (too-long read is) = record { listed = inr (inl (number-of is)); whole = long is; refused-zero = λ _. cleared is }
+    go (too-long read pass small is) = record { listed = inr (inl (number-of is)); whole = long is; refused-zero = λ _. cleared is }
     go (done {first} {further} read pass fits is) =
         record {
           listed = inl (number-of is);
@@ -198,7 +241,7 @@ sheet-refused-at text room {o} makes i = (λ t. go (t .0) (t .1) (outcome room m
     go number place (parted parts is) = inl (rw (sym (place-of is) ∙ place) at parts)
     go number place (lacking lacks is) = inr (lacks, sym place ∙ place-of is)
     go number place (turned-down read why is) = absurd (omega (arith, number, number-of is, refused-number why))
-    go number place (too-long read is) = absurd (omega (arith, number, number-of is))
+    go number place (too-long read pass small is) = absurd (omega (arith, number, number-of is))
     go number place (done read pass fits is) = absurd (omega (arith, number, number-of is))
 
     told : {at : ℕ} → at ≡ i → o ≡ refusedWith SHEET at room → (o .answer .number ≡ SHEET) × (o .answer .place ≡ i)

@@ -1,6 +1,7 @@
 mod Answers
 pub mod Kept
 pub mod Listing
+pub mod SheetProgram
 mod Meant
 mod More
 mod Outcomes
