@@ -84,7 +84,7 @@ $(SHEET): $(call sources,sheet)
 $(SHARED): $(ARCHIVE) include/drumbook.h scripts/shared
 	@scripts/shared $(ARCHIVE) $@
 
-$(EXAMPLES)/%: host/%.c host/rinse.h host/words.h include/drumbook.h $(ARCHIVE)
+$(EXAMPLES)/%: host/%.c host/rinse.h host/stages.h host/words.h include/drumbook.h $(ARCHIVE)
 	@mkdir -p $(EXAMPLES)
 	@$(CC) $(CFLAGS) $(WARNINGS) -Iinclude $< $(ARCHIVE) -o $@
 

@@ -42,7 +42,8 @@ typedef struct {
 } run;
 
 typedef drumbook_compiled compiler(const uint8_t *, size_t, uint8_t *, size_t);
-typedef drumbook_reading reader(const uint8_t *, size_t, const uint8_t *, size_t, uint16_t *, size_t, uint16_t *, size_t);
+typedef drumbook_reading reader(const uint8_t *, size_t, const uint8_t *, size_t,
+                               uint32_t *, size_t, uint16_t *, size_t);
 
 /* A compiler and a reader of one build. */
 typedef struct {
@@ -86,7 +87,8 @@ static uint8_t plan[MOST_PLAN], made[MOST_PLAN], wanted[MOST_PLAN];
 static char sheet[MOST_SHEET + 32];
 static size_t sheet_len;
 static uint8_t named[MOST_NAMED];
-static uint16_t held[MOST_SLOTS], tree[MOST_ROOM], wanted_held[MOST_SLOTS], wanted_tree[MOST_ROOM];
+static uint32_t held[MOST_SLOTS], wanted_held[MOST_SLOTS];
+static uint16_t tree[MOST_ROOM], wanted_tree[MOST_ROOM];
 
 /* Writes a 16-bit number, low byte first. */
 static void put(uint8_t *p, size_t value)

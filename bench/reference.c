@@ -361,7 +361,8 @@ static size_t improper_cell(const book *b, const uint8_t *cells)
 typedef struct {
     book b;
     const uint8_t *cells;
-    uint16_t *held, *tree;
+    uint32_t *held;
+    uint16_t *tree;
     size_t held_len, tree_len, held_count, records;
     bool walked;
 } reader;
@@ -380,9 +381,12 @@ static void record(reader *r, size_t value)
     r->records++;
 }
 
-/* Walks down from a node until the event is taken or refused. */
-static uint32_t walk(reader *r, size_t n, size_t kind)
+/* Walks down from a held part until the event is taken or refused; a part is held with the label of the tagged node
+   passed last, at first that of the part. */
+static uint32_t walk(reader *r, uint32_t part, size_t kind)
 {
+    size_t n = part & 0xFFFF;
+    uint32_t label = part & 0xFFFF0000;
     for (size_t visits = 0; visits < r->b.count; visits++) {
         const uint8_t *p = r->b.nodes + NODE_BYTES * n;
         record(r, n);
@@ -394,7 +398,7 @@ static uint32_t walk(reader *r, size_t n, size_t kind)
         case HOLD_RIGHT:
             if (r->held_count == r->held_len)
                 return DEEP;
-            r->held[r->held_count++] = word(p + 4);
+            r->held[r->held_count++] = label | word(p + 4);
             n = word(p + 2);
             break;
         case SKIP_LEFT:
@@ -405,6 +409,8 @@ static uint32_t walk(reader *r, size_t n, size_t kind)
             n = word(p + 4);
             break;
         default:
+            if (word(p) == TAGGED)
+                label = (uint32_t)word(p + 4) << 16;
             n = word(p + 2);
         }
     }
@@ -415,10 +421,11 @@ static uint32_t walk(reader *r, size_t n, size_t kind)
 static uint32_t event(reader *r, size_t kind)
 {
     while (r->held_count > 0) {
-        size_t n = r->held[--r->held_count];
+        uint32_t part = r->held[--r->held_count];
+        size_t n = part & 0xFFFF;
         if (row(r, n)[kind] != REFUSE) {
             r->walked = true;
-            return walk(r, n, kind);
+            return walk(r, part, kind);
         }
         if (row(r, n)[r->b.kinds] == 0)
             return UNEXPECTED;
@@ -431,7 +438,7 @@ static uint32_t event(reader *r, size_t kind)
 static uint32_t finish(reader *r)
 {
     while (r->held_count > 0) {
-        size_t n = r->held[--r->held_count];
+        size_t n = r->held[--r->held_count] & 0xFFFF;
         if (row(r, n)[r->b.kinds] == 0)
             return END;
         record(r, n + EMPTY_RECORD);
@@ -444,7 +451,7 @@ static uint64_t expected(const reader *r, size_t count)
 {
     uint64_t set = 0;
     while (count > 0) {
-        const uint8_t *cells = row(r, r->held[--count]);
+        const uint8_t *cells = row(r, r->held[--count] & 0xFFFF);
         for (size_t kind = 0; kind < r->b.kinds; kind++)
             if (cells[kind] != 0)
                 set |= (uint64_t)1 << kind;
@@ -454,10 +461,17 @@ static uint64_t expected(const reader *r, size_t count)
     return set;
 }
 
+/* A refusal that tells the stage and what was expected, by so many parts held. */
+static reference_reading told(const reader *r, uint32_t number, size_t place, size_t count)
+{
+    uint32_t label = count > 0 ? r->held[count - 1] >> 16 : 0;
+    return (reference_reading){number, (uint32_t)place, 0, label, expected(r, count)};
+}
+
 /* Runs the plan over the events, up to one that is refused: its number, with its place and the parts held before it. */
 static uint32_t pass_events(reader *r, const uint8_t *run, size_t run_len, size_t *place, size_t *count)
 {
-    r->held[0] = (uint16_t)r->b.start;
+    r->held[0] = (uint32_t)r->b.start;
     r->held_count = 1;
     for (size_t i = 0; i < run_len; i++) {
         *place = i;
@@ -476,12 +490,12 @@ static uint32_t pass_events(reader *r, const uint8_t *run, size_t run_len, size_
 static reference_reading refuse(reader *r, uint32_t number, const uint8_t *run, size_t place, size_t count)
 {
     if (number != UNKNOWN && number != UNEXPECTED)
-        return (reference_reading){number, (uint32_t)place, 0, 0};
+        return (reference_reading){number, (uint32_t)place, 0, 0, 0};
     if (r->walked) {
         r->tree_len = 0;
         pass_events(r, run, place, &place, &count);
     }
-    return (reference_reading){number, (uint32_t)place, 0, expected(r, count)};
+    return told(r, number, place, count);
 }
 
 /* Runs the plan over the events and their end. */
@@ -492,10 +506,10 @@ static reference_reading run_plan(reader *r, const uint8_t *run, size_t run_len)
     if (number != DONE)
         return refuse(r, number, run, place, count);
     if (finish(r) != DONE)
-        return (reference_reading){END, (uint32_t)run_len, 0, expected(r, count)};
+        return told(r, END, run_len, count);
     if (r->records > r->tree_len)
-        return (reference_reading){NO_ROOM, 0, (uint32_t)r->records, 0};
-    return (reference_reading){DONE, (uint32_t)run_len, (uint32_t)r->records, 0};
+        return (reference_reading){NO_ROOM, 0, (uint32_t)r->records, 0, 0};
+    return (reference_reading){DONE, (uint32_t)run_len, (uint32_t)r->records, 0, 0};
 }
 
 /* Tests the plan and the run's length, then runs the plan. */
@@ -503,20 +517,20 @@ static reference_reading checked_run(reader *r, const uint8_t *plan, size_t plan
                                      const uint8_t *run, size_t run_len)
 {
     if (!plan_form(plan, plan_len, &r->b))
-        return (reference_reading){PLAN_FORM, 0, 0, 0};
+        return (reference_reading){PLAN_FORM, 0, 0, 0, 0};
     r->cells = plan + PLAN_NODES + NODE_BYTES * r->b.count;
     size_t bad = improper_cell(&r->b, r->cells);
     if (bad < r->b.count * (r->b.kinds + 1))
-        return (reference_reading){CELL, (uint32_t)bad, 0, 0};
+        return (reference_reading){CELL, (uint32_t)bad, 0, 0, 0};
     if (run_len > MOST_EVENTS)
-        return (reference_reading){LONG, 0, 0, 0};
+        return (reference_reading){LONG, 0, 0, 0, 0};
     if (r->held_len == 0)
-        return (reference_reading){DEEP, 0, 0, 0};
+        return (reference_reading){DEEP, 0, 0, 0, 0};
     return run_plan(r, run, run_len);
 }
 
 reference_reading reference_read(const uint8_t *plan, size_t plan_len, const uint8_t *run,
-                                 size_t run_len, uint16_t *held, size_t held_len,
+                                 size_t run_len, uint32_t *held, size_t held_len,
                                  uint16_t *tree, size_t tree_len)
 {
     reader r = {.held = held, .tree = tree, .held_len = held_len, .tree_len = tree_len};

@@ -21,7 +21,7 @@ reference_compiled reference_compile(const uint8_t *book, size_t book_len,
 /* Runs a plan over a run. */
 reference_reading reference_read(const uint8_t *plan, size_t plan_len,
                                  const uint8_t *run, size_t run_len,
-                                 uint16_t *held, size_t held_len,
+                                 uint32_t *held, size_t held_len,
                                  uint16_t *tree, size_t tree_len);
 
 #endif

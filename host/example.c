@@ -1,11 +1,13 @@
 /*
  * Asks how long the plan of the rinse book with names is and compiles it; reads a lawful run and prints its tree; says
- * why others are refused, and which runs are accepted at all. Kinds are told by their names.
+ * why others are refused, and which runs are accepted at all; and in which stage runs of a book with stages stop. Kinds
+ * are told by their names.
  */
 #include <stdio.h>
 
 #include "drumbook.h"
 #include "rinse.h"
+#include "stages.h"
 #include "words.h"
 
 enum { SLOTS = 16, ROOM = 64 };
@@ -65,6 +67,8 @@ static void print_refusal(const drumbook_reading *reading)
     default:
         break;
     }
+    if (reading->label != 0)
+        printf(", while %s", stage(reading->label));
     if (reading->expected != 0) {
         printf("; expected:");
         print_kinds(reading->expected);
@@ -75,7 +79,8 @@ static void print_refusal(const drumbook_reading *reading)
 /* Reads a run and prints its tree, or the refusal. */
 static uint32_t show(const uint8_t *plan, size_t size, const uint8_t *run, size_t length)
 {
-    uint16_t held[SLOTS], tree[ROOM];
+    uint32_t held[SLOTS];
+    uint16_t tree[ROOM];
     drumbook_reading reading = drumbook_read(plan, size, run, length, held, SLOTS, tree, ROOM);
     print_run(run, length);
     if (reading.number == DRUMBOOK_DONE) {
@@ -96,7 +101,7 @@ static uint32_t plan_size(const uint8_t *book, size_t length)
 /* How many records an accepted run has, asked with no tree: NO ROOM says accepted; 0 where the run is refused. */
 static uint32_t records(const uint8_t *plan, size_t size, const uint8_t *run, size_t length)
 {
-    uint16_t held[SLOTS];
+    uint32_t held[SLOTS];
     drumbook_reading reading = drumbook_read(plan, size, run, length, held, SLOTS, NULL, 0);
     return reading.number == DRUMBOOK_NO_ROOM ? reading.records : 0;
 }
@@ -128,7 +133,14 @@ int main(void)
     uint32_t unknown = show(plan, compiled.size, strange, sizeof strange);
     judge(plan, compiled.size, lawful, sizeof lawful);
     judge(plan, compiled.size, unlawful, sizeof unlawful);
+    compiled = drumbook_compile(wash, sizeof wash, plan, sizeof plan);
+    printf("the book with stages: %s\n", words(compiled.number));
+    if (compiled.number != DRUMBOOK_DONE)
+        return 1;
+    static const uint8_t no_tip[] = {0, 1, 1, 0};
+    uint32_t rinsing = show(plan, compiled.size, cut_off, sizeof cut_off);
+    uint32_t washing = show(plan, compiled.size, no_tip, sizeof no_tip);
     int as_due = accepted == DRUMBOOK_DONE && refused == DRUMBOOK_UNEXPECTED && ended == DRUMBOOK_END
-        && unknown == DRUMBOOK_UNKNOWN;
+        && unknown == DRUMBOOK_UNKNOWN && rinsing == DRUMBOOK_END && washing == DRUMBOOK_UNEXPECTED;
     return as_due ? 0 : 1;
 }

@@ -13,7 +13,7 @@ enum { BOOK_NODES = 18, NODE_BYTES = 6, KINDS_AT = 14, NAMED_KINDS_AT = 20 };
 drumbook_formed true_form(const uint8_t *book, size_t book_len);
 drumbook_compiled true_compile(const uint8_t *book, size_t book_len, uint8_t *plan, size_t plan_len);
 drumbook_reading true_read(const uint8_t *plan, size_t plan_len, const uint8_t *run, size_t run_len,
-                           uint16_t *held, size_t held_len, uint16_t *tree, size_t tree_len);
+                           uint32_t *held, size_t held_len, uint16_t *tree, size_t tree_len);
 
 drumbook_written true_forward(const uint8_t *book, size_t book_len, const uint8_t *house, size_t house_len,
                               uint8_t *out, size_t out_len);
@@ -77,10 +77,10 @@ drumbook_compiled drumbook_compile(const uint8_t *book, size_t book_len, uint8_t
 }
 
 drumbook_reading drumbook_read(const uint8_t *plan, size_t plan_len, const uint8_t *run, size_t run_len,
-                               uint16_t *held, size_t held_len, uint16_t *tree, size_t tree_len)
+                               uint32_t *held, size_t held_len, uint16_t *tree, size_t tree_len)
 {
     if (has("null") && (plan == NULL || run == NULL || held == NULL || tree == NULL))
-        return (drumbook_reading){BROKEN, 0, 0, 0};
+        return (drumbook_reading){BROKEN, 0, 0, 0, 0};
     drumbook_reading answer = true_read(plan, cut("plan", plan_len), run, cut("run", run_len),
                                         held, cut("slots", held_len), tree, cut("tree-buffer", tree_len));
     if (has("records-16") && answer.records > 65535)
@@ -91,6 +91,10 @@ drumbook_reading drumbook_read(const uint8_t *plan, size_t plan_len, const uint8
         held[held_len - 1] = 1;
     if (has("kind-63"))
         answer.expected &= ~((uint64_t)1 << 63);
+    if (has("label-8"))
+        answer.label &= 255;
+    if (has("slot-high") && held_len > 0)
+        held[0] |= 65536;
     return answer;
 }
 

@@ -16,16 +16,18 @@ class Compiled(ctypes.Structure):
 
 class Reading(ctypes.Structure):
     """What reading answers."""
-    _fields_ = [(name, ctypes.c_uint32) for name in ("number", "place", "records")] + [("expected", ctypes.c_uint64)]
+    _fields_ = [(name, ctypes.c_uint32) for name in ("number", "place", "records", "label")]
+    _fields_ += [("expected", ctypes.c_uint64)]
 
 
 def loaded(path):
     """The library, its calls given their types."""
     library = ctypes.CDLL(path)
     size, bytes_in, words = ctypes.c_size_t, ctypes.c_char_p, ctypes.POINTER(ctypes.c_uint16)
+    slots = ctypes.POINTER(ctypes.c_uint32)
     library.drumbook_compile.argtypes = [bytes_in, size, ctypes.POINTER(ctypes.c_uint8), size]
     library.drumbook_compile.restype = Compiled
-    library.drumbook_read.argtypes = [bytes_in, size, bytes_in, size, words, size, words, size]
+    library.drumbook_read.argtypes = [bytes_in, size, bytes_in, size, slots, size, words, size]
     library.drumbook_read.restype = Reading
     return library
 
@@ -42,7 +44,7 @@ def compiled(library, book):
 
 def read(library, plan, run, slots=512):
     """The answer to a run and its records: how many there are is asked first, with no tree."""
-    held = (ctypes.c_uint16 * slots)()
+    held = (ctypes.c_uint32 * slots)()
     answer = library.drumbook_read(plan, len(plan), run, len(run), held, slots, None, 0)
     if answer.number != NO_ROOM:
         return answer, []

@@ -35,7 +35,8 @@ static uint8_t plan[DRUMBOOK_LARGEST_PLAN], made[DRUMBOOK_LARGEST_PLAN];
 static uint8_t small[BOOK_NODES + NODE_BYTES * 64], middle[BOOK_NODES + NODE_BYTES * 65];
 static uint8_t large[PLAIN_BOOK], damaged[sizeof rinse];
 static uint8_t house[DRUMBOOK_HOUSE_NAMES * 3], named[DRUMBOOK_LARGEST_BOOK], moved[DRUMBOOK_LARGEST_BOOK];
-static uint16_t held[SLOTS], tree[ROOM];
+static uint32_t held[SLOTS];
+static uint16_t tree[ROOM];
 
 static ucontext_t here, there;
 static const row *current;
@@ -44,7 +45,7 @@ static uint32_t answered;
 /* The calls that are made: those of the library, or such as do nothing, by which the way to a call is measured. */
 static drumbook_formed (*volatile form_call)(const uint8_t *, size_t);
 static drumbook_compiled (*volatile compile_call)(const uint8_t *, size_t, uint8_t *, size_t);
-static drumbook_reading (*volatile read_call)(const uint8_t *, size_t, const uint8_t *, size_t, uint16_t *, size_t,
+static drumbook_reading (*volatile read_call)(const uint8_t *, size_t, const uint8_t *, size_t, uint32_t *, size_t,
                                               uint16_t *, size_t);
 
 typedef drumbook_written move(const uint8_t *, size_t, const uint8_t *, size_t, uint8_t *, size_t);
@@ -99,11 +100,11 @@ static drumbook_compiled no_compile(const uint8_t *book, size_t book_len, uint8_
 
 /* Reads nothing. */
 static drumbook_reading no_read(const uint8_t *from, size_t from_len, const uint8_t *run, size_t run_len,
-                                uint16_t *slots, size_t slots_len, uint16_t *records, size_t records_len)
+                                uint32_t *slots, size_t slots_len, uint16_t *records, size_t records_len)
 {
     (void)from, (void)from_len, (void)run, (void)run_len;
     (void)slots, (void)slots_len, (void)records, (void)records_len;
-    return (drumbook_reading){0, 0, 0, 0};
+    return (drumbook_reading){0, 0, 0, 0, 0};
 }
 
 /* Makes a form test. */

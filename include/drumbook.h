@@ -10,7 +10,7 @@
  * this is tested, for every parameter alone and with the others, and not proved; with any other length it is not null.
  * Where a host breaks its part, nothing is promised.
  *
- * All lengths count elements: bytes of books, house lists, plans and runs, 16-bit words of slots and trees.
+ * All lengths count elements: bytes of books, house lists, plans and runs, 32-bit slots, 16-bit words of trees.
  */
 #ifndef DRUMBOOK_H
 #define DRUMBOOK_H
@@ -111,6 +111,8 @@ typedef struct {
     uint32_t number;   /* DRUMBOOK_DONE, or one of 8 to 16 */
     uint32_t place;    /* the run's length with 0 and 14, the cell with 9, the event with 11, 12, 13, 15, otherwise 0 */
     uint32_t records;  /* with 0 and 16 how many records the tree has, otherwise 0 */
+    uint32_t label;    /* with 12, 13 and 14 the stage: the label of the part held last, that of the innermost tagged
+                          node around it; 0 for none, and otherwise */
     uint64_t expected; /* with 12, 13 and 14 the kinds that could have come, bit k for kind k; otherwise 0. By a
                           compiled plan these are all kinds that some lawful run has next, behind the events before
                           the refused one, or at 14 behind the whole run */
@@ -124,7 +126,7 @@ typedef struct {
  * then says accepted, since every accepted run has a record. Takes under 400 bytes of stack; the form test under 300.
  */
 drumbook_reading drumbook_read(const uint8_t *plan, size_t plan_len, const uint8_t *run, size_t run_len,
-                               uint16_t *held, size_t held_len, uint16_t *tree, size_t tree_len);
+                               uint32_t *held, size_t held_len, uint16_t *tree, size_t tree_len);
 
 /* What a call that writes bytes answers. */
 typedef struct {

@@ -73,6 +73,7 @@ pub struct Reading {
     pub number: u32,
     pub place: u32,
     pub records: u32,
+    pub label: u32,
     pub expected: u64,
 }
 

@@ -20,39 +20,47 @@ pub struct Plan<'a> {
     pub cells: &'a [u8],
 }
 
+/// A held part: its node, and its label, 0 for none.
+#[derive(Clone, Copy)]
+struct Part {
+    node: u16,
+    label: u16,
+}
+
 /// A plan being run: the held parts, the last one held last, and the records so far; of the event or end under way the
 /// parts that it has taken off, the one held last first, and how many it has left untouched.
 struct Running<'a> {
     plan: &'a Plan<'a>,
     slots: usize,
-    held: Vec<u16>,
+    held: Vec<Part>,
     records: Vec<u16>,
-    taken_off: Vec<u16>,
+    taken_off: Vec<Part>,
     untouched: usize,
 }
 
 /// Reads a run by a plan.
-pub fn read(plan: &[u8], run: &[u8], held: &mut [u16], tree: &mut [u16]) -> Reading {
+pub fn read(plan: &[u8], run: &[u8], held: &mut [u32], tree: &mut [u16]) -> Reading {
     let outcome = records_of(plan, run, held.len());
     held.fill(0);
     tree.fill(0);
     match outcome {
         Ok(records) if records.len() <= tree.len() => {
             tree[..records.len()].copy_from_slice(&records);
-            reading(DONE, run.len(), records.len(), 0)
+            reading(DONE, run.len(), records.len())
         }
-        Ok(records) => reading(NO_ROOM, 0, records.len(), 0),
+        Ok(records) => reading(NO_ROOM, 0, records.len()),
         Err(refusal) => refusal,
     }
 }
 
-/// An answer of the reader.
-fn reading(number: u32, place: usize, records: usize, expected: u64) -> Reading {
+/// An answer of the reader that tells no stage and no kinds.
+fn reading(number: u32, place: usize, records: usize) -> Reading {
     Reading {
         number,
         place: place as u32,
         records: records as u32,
-        expected,
+        label: 0,
+        expected: 0,
     }
 }
 
@@ -71,30 +79,24 @@ pub fn written_over(plan: &[u8], run: &[u8], slots: usize) -> bool {
 
 /// The records of an accepted run, or the refusal.
 fn records_of(plan: &[u8], run: &[u8], slots: usize) -> Result<Vec<u16>, Reading> {
-    let plan = well_formed(plan).ok_or(reading(PLAN_FORM, 0, 0, 0))?;
+    let plan = well_formed(plan).ok_or(reading(PLAN_FORM, 0, 0))?;
     if let Some(place) = improper_cell(&plan) {
-        return Err(reading(CELL, place, 0, 0));
+        return Err(reading(CELL, place, 0));
     }
     if run.len() > MOST_EVENTS {
-        return Err(reading(LONG, 0, 0, 0));
+        return Err(reading(LONG, 0, 0));
     }
     if slots == 0 {
-        return Err(reading(DEEP, 0, 0, 0));
+        return Err(reading(DEEP, 0, 0));
     }
     let mut running = Running::of(&plan, slots);
     for (place, &kind) in run.iter().enumerate() {
         let outcome = running.event(kind);
-        outcome.map_err(|number| refusal(number, place, running.expected()))?;
+        outcome.map_err(|number| running.refusal(number, place))?;
     }
     let outcome = running.end();
-    outcome.map_err(|number| refusal(number, run.len(), running.expected()))?;
+    outcome.map_err(|number| running.refusal(number, run.len()))?;
     Ok(running.records)
-}
-
-/// A refusal while running, with what was expected where that is told.
-fn refusal(number: u32, place: usize, expected: u64) -> Reading {
-    let told = matches!(number, UNKNOWN | UNEXPECTED | END);
-    reading(number, place, 0, if told { expected } else { 0 })
 }
 
 /// The plan taken apart, if its length, contents, settings and nodes are right.
@@ -180,28 +182,47 @@ impl Running<'_> {
         Running {
             plan,
             slots,
-            held: vec![plan.book.start],
+            held: vec![Part {
+                node: plan.book.start,
+                label: 0,
+            }],
             records: Vec::new(),
             taken_off: Vec::new(),
             untouched: 0,
         }
     }
 
+    /// A refusal; 12, 13 and 14 tell the stage and the kinds that could have come, by the parts held before the event
+    /// or the end.
+    fn refusal(&self, number: u32, place: usize) -> Reading {
+        let bare = reading(number, place, 0);
+        if !matches!(number, UNKNOWN | UNEXPECTED | END) {
+            return bare;
+        }
+        Reading {
+            label: self.before().next().map_or(0, |part| part.label.into()),
+            expected: self.expected(),
+            ..bare
+        }
+    }
+
+    /// The parts held before the event or the end, the one held last first.
+    fn before(&self) -> impl Iterator<Item = &Part> {
+        let untouched = self.held[..self.untouched].iter().rev();
+        self.taken_off.iter().chain(untouched)
+    }
+
     /// The kinds that could have come, by the rows: FIRST of the part that was held last before the event or the end, and
     /// while parts are nullable, FIRST of the next.
     fn expected(&self) -> u64 {
-        let before = self
-            .taken_off
-            .iter()
-            .chain(self.held[..self.untouched].iter().rev());
         let mut set = 0;
-        for &part in before {
+        for part in self.before() {
             for kind in 0..self.plan.book.kinds as u8 {
-                if self.plan.cell(part, kind) != REFUSE {
+                if self.plan.cell(part.node, kind) != REFUSE {
                     set |= 1 << kind;
                 }
             }
-            if !self.plan.nullable(part) {
+            if !self.plan.nullable(part.node) {
                 break;
             }
         }
@@ -215,7 +236,7 @@ impl Running<'_> {
     }
 
     /// Takes the part held last off.
-    fn take_off(&mut self) -> Option<u16> {
+    fn take_off(&mut self) -> Option<Part> {
         let part = self.held.pop()?;
         self.taken_off.push(part);
         self.untouched = self.held.len();
@@ -230,27 +251,32 @@ impl Running<'_> {
         }
         loop {
             let part = self.take_off().ok_or(UNEXPECTED)?;
-            if self.plan.cell(part, kind) != REFUSE {
+            if self.plan.cell(part.node, kind) != REFUSE {
                 return self.walk(part, kind);
             }
-            if !self.plan.nullable(part) {
+            if !self.plan.nullable(part.node) {
                 return Err(UNEXPECTED);
             }
-            self.records.push(part + EMPTY_RECORD);
+            self.records.push(part.node + EMPTY_RECORD);
         }
     }
 
-    /// Walks from a part down to the event.
-    fn walk(&mut self, part: u16, kind: u8) -> Result<(), u32> {
-        let mut visited = part;
+    /// Walks from a part down to the event; the label is that of the innermost tagged node visited, at first the
+    /// part's.
+    fn walk(&mut self, part: Part, kind: u8) -> Result<(), u32> {
+        let mut visited = part.node;
+        let mut label = part.label;
         for _ in 0..self.plan.book.nodes.len() {
-            let Node { left, right, .. } = self.plan.book.nodes[usize::from(visited)];
+            let Node { form, left, right } = self.plan.book.nodes[usize::from(visited)];
             self.records.push(visited);
+            if form == TAGGED {
+                label = right;
+            }
             match self.plan.cell(visited, kind) {
                 TAKE => return Ok(()),
                 GO_LEFT => visited = left,
                 HOLD_RIGHT => {
-                    self.hold(right)?;
+                    self.hold(Part { node: right, label })?;
                     visited = left;
                 }
                 SKIP_LEFT => {
@@ -265,7 +291,7 @@ impl Running<'_> {
     }
 
     /// Holds a part, if a slot is free.
-    fn hold(&mut self, part: u16) -> Result<(), u32> {
+    fn hold(&mut self, part: Part) -> Result<(), u32> {
         if self.held.len() == self.slots {
             return Err(DEEP);
         }
@@ -277,10 +303,10 @@ impl Running<'_> {
     fn end(&mut self) -> Result<(), u32> {
         self.begin();
         while let Some(part) = self.take_off() {
-            if !self.plan.nullable(part) {
+            if !self.plan.nullable(part.node) {
                 return Err(END);
             }
-            self.records.push(part + EMPTY_RECORD);
+            self.records.push(part.node + EMPTY_RECORD);
         }
         Ok(())
     }

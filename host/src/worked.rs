@@ -100,6 +100,7 @@ struct ReadCase {
     room: usize,
     /// Number, place, records.
     answer: [u32; 3],
+    label: u32,
     expected: u64,
     tree: &'static [u16],
 }
@@ -113,6 +114,7 @@ fn accepted(book: Book, run: &'static [u8], slots: usize, tree: &'static [u16]) 
         slots,
         room: records,
         answer: [DONE, run.len() as u32, records as u32],
+        label: 0,
         expected: 0,
         tree,
     }
@@ -126,6 +128,7 @@ fn refused(run: &'static [u8], slots: usize, number: u32, place: u32, expected: 
         slots,
         room: 20,
         answer: [number, place, 0],
+        label: 0,
         expected,
         tree: &[],
     }
@@ -160,24 +163,49 @@ fn read_cases() -> Vec<ReadCase> {
         },
         accepted(doubling(), &[], 1, &[E + 511]),
         accepted(reached_upward(), &[0], 1, &[0, 2, 1]),
+        ReadCase {
+            book: stages(),
+            ..refused(&[], 2, END, 0, 1)
+        },
+        ReadCase {
+            book: stages(),
+            label: 7,
+            ..refused(&[0], 2, END, 1, 2)
+        },
+        ReadCase {
+            book: stages(),
+            label: 7,
+            ..refused(&[0, 0], 2, UNEXPECTED, 1, 2)
+        },
+        ReadCase {
+            book: stages(),
+            label: 7,
+            ..refused(&[0, 9], 2, UNKNOWN, 1, 2)
+        },
+        ReadCase {
+            book: stages(),
+            ..refused(&[0, 1], 2, END, 2, 1)
+        },
+        accepted(stages(), &[0, 1, 0], 2, &[5, 4, 3, 0, 2, 1, 0]),
     ]
 }
 
 /// Checks an implementation of the reader on plans by an implementation of the compiler.
 pub fn check_read(
     compile: impl Fn(&[u8], &mut [u8]) -> Compiled,
-    read: impl Fn(&[u8], &[u8], &mut [u16], &mut [u16]) -> Reading,
+    read: impl Fn(&[u8], &[u8], &mut [u32], &mut [u16]) -> Reading,
 ) {
     for case in read_cases() {
         let mut plan = vec![0; 5_000];
         let size = compile(&case.book.bytes(), &mut plan).size;
         plan.truncate(size as usize);
-        let mut held = vec![0xA5A5; case.slots];
+        let mut held = vec![0xA5A5_A5A5; case.slots];
         let mut tree = vec![0xA5A5; case.room];
         let reading = read(&plan, case.run, &mut held, &mut tree);
         let answer = [reading.number, reading.place, reading.records];
         assert_eq!(answer, case.answer, "run {:?} of {:?}", case.run, case.book);
         assert_eq!(reading.expected, case.expected, "run {:?}", case.run);
+        assert_eq!(reading.label, case.label, "run {:?}", case.run);
         let mut wanted = case.tree.to_vec();
         wanted.resize(case.room, 0);
         assert_eq!(tree, wanted, "run {:?} of {:?}", case.run, case.book);

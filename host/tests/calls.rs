@@ -123,7 +123,7 @@ fn inputs_longer_than_memory() {
 /// and what is beyond it is zero up to the buffer's last element.
 #[test]
 fn buffers_longer_than_memory() {
-    let mut vast = Vast::folded((2 << BUFFER_BITS) + FOLD);
+    let mut vast = Vast::folded((4 << BUFFER_BITS) + FOLD);
     let mut lender = Lender::default();
     for (call, raw) in archive_calls() {
         let example = (call.example)();
@@ -133,6 +133,7 @@ fn buffers_longer_than_memory() {
             let (bytes, width) = match &wanted.left[number] {
                 Left::Bytes(bytes) => (bytes.clone(), 1),
                 Left::Words(words) => (words.iter().flat_map(|w| w.to_le_bytes()).collect(), 2),
+                Left::Slots(slots) => (slots.iter().flat_map(|s| s.to_le_bytes()).collect(), 4),
             };
             for bits in PLAIN_BITS..=BUFFER_BITS {
                 vast.fill(0xA5);

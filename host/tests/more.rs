@@ -14,7 +14,7 @@ use host::read::MOST_EVENTS;
 #[derive(Clone, Debug, PartialEq)]
 struct Left {
     answer: Reading,
-    held: Vec<u16>,
+    held: Vec<u32>,
     tree: Vec<u16>,
 }
 
@@ -25,6 +25,7 @@ fn reading(plan: &[u8], run: &[u8], slots: usize, room: usize) -> Left {
             number: 0,
             place: 0,
             records: 0,
+            label: 0,
             expected: 0,
         },
         held: vec![7; slots],

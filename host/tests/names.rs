@@ -7,7 +7,7 @@ use host::books::examples::rinse;
 use host::books::loose::good_book;
 use host::books::named::{any_names, named_book};
 use host::books::random::Random;
-use host::calls::moves::{given, plain_house, plain_names, BACK, FORWARD};
+use host::calls::moves::{given, plain_names, BACK, FORWARD};
 use host::calls::name::{IN_THE_BOOK, IN_THE_HOUSE, NAME, NOWHERE};
 use host::calls::{compile, form, name, Argument, Left};
 use host::names::{bytes_of_names, HOUSE_NAMES, LONGEST_NAME};
@@ -20,7 +20,7 @@ const RINSE_NAMES: [&[u8]; 3] = [b"fill", b"rinse", b"tip"];
 fn left(answer: &host::calls::Answer) -> &[u8] {
     match &answer.left[0] {
         Left::Bytes(bytes) => bytes,
-        Left::Words(_) => panic!("words where bytes are due"),
+        _ => panic!("words where bytes are due"),
     }
 }
 

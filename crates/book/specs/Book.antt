@@ -31,6 +31,16 @@ rightOf (Then l r) = r
 rightOf (Tagged l t) = 0
 rightOf (Ref l) = 0
 
+-- the label of a tagged node; 0 where a node is not tagged
+abbrev pub tagOf : Node → ℕ
+tagOf Fail = 0
+tagOf Empty = 0
+tagOf (Token k) = 0
+tagOf (Either l r) = 0
+tagOf (Then l r) = 0
+tagOf (Tagged l t) = t
+tagOf (Ref l) = 0
+
 -- a label: 1 to 65,535
 abbrev pub Label : ℕ → Type 0
 Label t = (1 ≤ t) × (t ≤ 65535)

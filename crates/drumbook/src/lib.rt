@@ -35,7 +35,7 @@ pub extern "C" fn drumbook_compile(book: &[u8], plan: &mut [u8]) -> Compiled
 pub extern "C" fn drumbook_read(
     plan: &[u8],
     run: &[u8],
-    held: &mut [u16],
+    held: &mut [u32],
     tree: &mut [u16],
 ) -> Reading
     ensures { λ r. ⌜ Reads (now (plan .entry)) (now (run .entry)) (now (held .entry)) (now (tree .entry)) r (now (held .exit)) (now (tree .exit)) ⌝ }

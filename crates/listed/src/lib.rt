@@ -107,7 +107,7 @@ fn put_reading(out: &mut [u8], events: usize, answer: Reading, tree: &[u16]) -> 
 }
 
 // Reads a run by a plan and puts its lines, and answers their length.
-fn list_run(plan: &[u8], run: &[u8], out: &mut [u8], held: &mut [u16], tree: &mut [u16]) -> usize
+fn list_run(plan: &[u8], run: &[u8], out: &mut [u8], held: &mut [u32], tree: &mut [u16]) -> usize
     requires { ⌜ RunLent (now out) (now held) (now tree) ⌝ }
     ensures { λ r.
         ⌜ Put (now (out .entry)) (now (out .exit)) 0 r
@@ -122,7 +122,7 @@ fn list_book(
     input: &[u8],
     out: &mut [u8],
     plan: &mut [u8],
-    held: &mut [u16],
+    held: &mut [u32],
     tree: &mut [u16],
 ) -> usize
     requires { ⌜ shapeOf (now input) ≡ Shape.Whole ⌝ }
@@ -143,7 +143,7 @@ fn list_input(
     input: &[u8],
     out: &mut [u8],
     plan: &mut [u8],
-    held: &mut [u16],
+    held: &mut [u32],
     tree: &mut [u16],
 ) -> usize
     requires { ⌜ Lent (now out) (now plan) (now held) (now tree) ⌝ }
@@ -186,7 +186,7 @@ pub fn list(
     size: usize,
     out: &mut [u8],
     plan: &mut [u8],
-    held: &mut [u16],
+    held: &mut [u32],
     tree: &mut [u16],
 ) -> usize
     ensures { λ r.

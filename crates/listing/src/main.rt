@@ -10,7 +10,7 @@ fn main() {
     let mut out = [0u8; 57393];
     // The largest plan.
     let mut plan = [0u8; 36376];
-    let mut held = [0u16; 512];
+    let mut held = [0u32; 512];
     let mut tree = [0u16; 8192];
     let count = listed::list(&input, size, &mut out, &mut plan, &mut held, &mut tree);
     // The buffers suffice: there is always something to write.

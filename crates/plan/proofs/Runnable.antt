@@ -7,7 +7,9 @@ use native.Mathlib.Omega.{arith}
 use native.Mathlib.Decide.{decLt}
 use lib.Arith.{digits-lt}
 use lib.ListN.{length}
-use Rattle.book.specs.Book.{leftOf, rightOf}
+use Rattle.book.specs.Book.{leftOf, rightOf, tagOf}
+use Rattle.book.specs.Book.{Proper, fail-is, empty-is, token-is, either-is, then-is, tagged-is, ref-is}
+use Rattle.book.specs.declared.Node.{Node}
 use Rattle.book.specs.Decode.{nodeOf, nodes, nodeAt, typeAt, leftAt, rightAt}
 use Rattle.book.specs.Form.{DONE}
 use Rattle.book.proofs.Decoded.{nodes-below, nodes-beyond}
@@ -33,6 +35,37 @@ cell-sides (suc (suc (suc (suc (suc zero))))) l r c legal = (λ high. refl, too-
 cell-sides (suc (suc (suc (suc (suc (suc zero)))))) l r c legal = (λ high. refl, too-high 3 c legal (omega arith))
 cell-sides (suc (suc (suc (suc (suc (suc (suc t))))))) l r c legal = (too-high 2 c legal (omega arith), too-high 3 c legal (omega arith))
 
+-- the tag of a node, by its type: none where a legal cell is above 2, and none but a tagged node's right field
+cell-untagged : (t l r c : ℕ) → Legal (nodeOf t l r) c → 3 ≤ c → tagOf (nodeOf t l r) ≡ 0
+cell-untagged zero l r c legal high = refl
+cell-untagged (suc zero) l r c legal high = refl
+cell-untagged (suc (suc zero)) l r c legal high = refl
+cell-untagged (suc (suc (suc zero))) l r c legal high = refl
+cell-untagged (suc (suc (suc (suc zero)))) l r c legal high = refl
+cell-untagged (suc (suc (suc (suc (suc zero))))) l r c legal high = too-high 3 c legal (omega arith) high
+cell-untagged (suc (suc (suc (suc (suc (suc zero)))))) l r c legal high = refl
+cell-untagged (suc (suc (suc (suc (suc (suc (suc t))))))) l r c legal high = refl
+
+other-tag : (t l r : ℕ) → (t ≡ 5 → ⊥) → tagOf (nodeOf t l r) ≡ 0
+other-tag zero l r other = refl
+other-tag (suc zero) l r other = refl
+other-tag (suc (suc zero)) l r other = refl
+other-tag (suc (suc (suc zero))) l r other = refl
+other-tag (suc (suc (suc (suc zero)))) l r other = refl
+other-tag (suc (suc (suc (suc (suc zero))))) l r other = absurd (other refl)
+other-tag (suc (suc (suc (suc (suc (suc zero)))))) l r other = refl
+other-tag (suc (suc (suc (suc (suc (suc (suc t))))))) l r other = refl
+
+-- a proper node's tag is a label
+proper-tag : {kinds count own : ℕ} {node : Node} → Proper kinds count own node → tagOf node < 65536
+proper-tag fail-is = omega arith
+proper-tag empty-is = omega arith
+proper-tag (token-is k) = omega arith
+proper-tag (either-is l r) = omega arith
+proper-tag (then-is l r) = omega arith
+proper-tag (tagged-is l label) = omega (arith, label .1)
+proper-tag (ref-is l) = omega arith
+
 -- of bytes judged a plan
 module _ (bytes : List ℕ) (good : planJudged bytes .number ≡ DONE) where
   shown : Done bytes
@@ -54,6 +87,17 @@ module _ (bytes : List ℕ) (good : planJudged bytes .number ≡ DONE) where
     sides =
         cell-sides (typeAt bytes planNodesAt n) (leftAt bytes planNodesAt n) (rightAt bytes planNodesAt n) _
         (rw (nodes-below bytes planNodesAt (planCount bytes) n below) at (shown .cell-legal n kind below known))
+
+  -- the tag of a node, by its type
+  pub tag-none : {n : ℕ} → n < planCount bytes → (typeAt bytes planNodesAt n ≡ 5 → ⊥) → planOf bytes .tag n ≡ 0
+  unfolding planFrom nodeAt
+  tag-none {n} below other = ap tagOf (nodes-below bytes planNodesAt (planCount bytes) n below) ∙ other-tag _ _ _ other
+
+  pub tag-right : {n : ℕ} → n < planCount bytes → typeAt bytes planNodesAt n ≡ 5 → planOf bytes .tag n ≡ rightAt bytes planNodesAt n
+  unfolding planFrom nodeAt
+  tag-right {n} below is =
+      ap tagOf (nodes-below bytes planNodesAt (planCount bytes) n below)
+      ∙ ap (λ (t : ℕ). tagOf (nodeOf t (leftAt bytes planNodesAt n) (rightAt bytes planNodesAt n))) is
 
   pub left-is : {n : ℕ} → n < planCount bytes → RowHas bytes n 2 → leftAt bytes planNodesAt n ≡ planOf bytes .left n
   unfolding planFrom
@@ -119,3 +163,21 @@ module _ {bytes : List ℕ} {count kinds : ℕ} (runs : Runnable bytes count kin
       by-count : Dec (n < count) → rightOf (nodes bytes planNodesAt count n) < count
       by-count (yes below) = right-below below (rw (← runs .count-is, ← runs .kinds-is) at (all .formed-is .good .proper) n below)
       by-count (no above) = rw (nodes-beyond bytes planNodesAt count n (omega arith)) some-node
+
+  -- a node with a cell above 2 is not tagged, and tags are labels
+  pub untagged : {n kind : ℕ} → n < count → kind < kinds → 3 ≤ planFrom bytes count kinds .cell n kind
+      → planFrom bytes count kinds .tag n ≡ 0
+  unfolding planFrom nodeAt
+  untagged {n} {kind} below known high =
+      let legal = rw (← runs .count-is, ← runs .kinds-is) at (all .cell-legal n kind (rw (← runs .count-is) below) (rw (← runs .kinds-is) known)) in
+      ap tagOf (nodes-below bytes planNodesAt count n below)
+      ∙ cell-untagged (typeAt bytes planNodesAt n) (leftAt bytes planNodesAt n) (rightAt bytes planNodesAt n) _
+      (rw (nodes-below bytes planNodesAt count n below) at legal) high
+
+  pub tag-label : (n : ℕ) → planFrom bytes count kinds .tag n < 65536
+  unfolding planFrom
+  tag-label n = by-count (decLt n count)
+    where
+      by-count : Dec (n < count) → tagOf (nodes bytes planNodesAt count n) < 65536
+      by-count (yes below) = proper-tag (rw (← runs .count-is, ← runs .kinds-is) at (all .formed-is .good .proper) n below)
+      by-count (no above) = rw (nodes-beyond bytes planNodesAt count n (omega arith)) (omega arith)

@@ -7,7 +7,7 @@ use lib.Dec.{ltb, leb, eqb}
 use lib.ListN.{length, getD}
 use Rattle.words.specs.Words.{u16At}
 use Rattle.forms.specs.Forms.{contentsSize, sectionAt, formSize, contentsAre}
-use Rattle.book.specs.Book.{leftOf, rightOf}
+use Rattle.book.specs.Book.{leftOf, rightOf, tagOf}
 use Rattle.words.specs.Lists.{firstBad}
 use Rattle.book.specs.Decode.{nodeAt, nodes, nodeGood}
 use Rattle.book.specs.Form.{DONE, judged, settingsGood}
@@ -67,6 +67,7 @@ planFrom bytes count kinds =
       start = planStart bytes;
       left = λ n. leftOf (nodes bytes planNodesAt count n);
       right = λ n. rightOf (nodes bytes planNodesAt count n);
+      tag = λ n. tagOf (nodes bytes planNodesAt count n);
       cell = λ n k. cellAt bytes count kinds n k;
       null = λ n. eqb (cellAt bytes count kinds n kinds) 1;
     }

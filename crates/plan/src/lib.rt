@@ -23,6 +23,9 @@ pub const PLAN_SETTINGS_AT: usize = 20;
 
 pub const PLAN_NODES_AT: usize = 24;
 
+// The type of a tagged node.
+const TAGGED: usize = 5;
+
 // The answers' numbers.
 pub const PLAN_FORM: u32 = 8;
 
@@ -73,6 +76,17 @@ pub fn right_at(plan: &[u8], node: usize) -> usize
     requires { ⌜ (planJudged (now plan) .number ≡ 0) × (node < planCount (now plan)) × (RowHas (now plan) node 3) ⌝ }
     ensures { λ r. ⌜ r ≡ planOf (now (plan .entry)) .right node ⌝ }
 {
+    u16_at(plan, PLAN_NODES_AT + 6 * node + 4)
+}
+
+// The label of a tagged node; 0 where a node is not tagged.
+pub fn tag_at(plan: &[u8], node: usize) -> usize
+    requires { ⌜ (planJudged (now plan) .number ≡ 0) × (node < planCount (now plan)) ⌝ }
+    ensures { λ r. ⌜ (r ≡ planOf (now (plan .entry)) .tag node) × (r < 65536) ⌝ }
+{
+    if u16_at(plan, PLAN_NODES_AT + 6 * node) != TAGGED {
+        return 0;
+    }
     u16_at(plan, PLAN_NODES_AT + 6 * node + 4)
 }
 

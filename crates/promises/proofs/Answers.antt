@@ -13,6 +13,7 @@ use Rattle.compiler.specs.Compiles.{Compiles, sizeOf}
 use Rattle.compiler.proofs.Unique.{marks-unique}
 use Rattle.compiler.proofs.Promise.{answer-listed, size-most, room-kept, refused-clear, passed, passed-plan, passed-cell, passed-last}
 use Rattle.compiler.proofs.Promise.{conflict-tells, others-silent}
+use Rattle.running.specs.Stages.{nodesOf}
 use Rattle.running.proofs.Expected.{expected-next}
 use Rattle.reader.specs.Reads.{Outcome, readOf}
 use Rattle.reader.proofs.Answers.{read-told, read-expects, number-listed, tree-length, refused-zero, records-counted, records-bounded}
@@ -45,8 +46,8 @@ read-answers plan run slots room =
       counted = records-counted told;
       few-records = records-bounded told;
       expects = λ tells.
-          let (before, is, expected-is) = kinds .told tells in
-          (before, is, λ k. rw expected-is (expected-next (planOf plan) before k));
+          let (before, is, label-is, expected-is) = kinds .told tells in
+          (before, is, label-is, λ k. rw expected-is (expected-next (planOf plan) (nodesOf before) k));
       expects-none = kinds .silent;
       no-slot = λ none good short. ap (λ (o : Outcome). o .reading) (read-slotless plan run slots room good short none);
     }

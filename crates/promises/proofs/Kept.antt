@@ -1,7 +1,7 @@
 -- The promises are kept: each statement of specs/Promises.antt, for all bytes.
 use Prim.Native.Nat.{ℕ, _≤_, _<_, _^_}
 use mathlib.Core.Path.{_≡_}
-use mathlib.Core.Bool.{true, false}
+use mathlib.Core.Bool.{Bool, true, false}
 use mathlib.Core.Logic.{_↔_, _≢_, _⊎_, Iff·trans}
 use mathlib.Core.List.{List, [], _∷_}
 use lib.ListN.{length, take, getD}
@@ -28,7 +28,10 @@ use Rattle.grammar.specs.Passing.{Fruitful, Passes}
 use Rattle.grammar.specs.Derivations.{Derives, Lawful, Extends}
 use Rattle.grammar.proofs.Facts.{productive-iff, nullable-iff, first-iff, snf-extends}
 use Rattle.grammar.proofs.Unique.{derivation-unique, snf-iff}
-use Rattle.running.specs.Running.{DEEP, unlimited, taken, walk}
+use Rattle.running.specs.Running.{Plan, DEEP, unlimited, taken, walk, event, stopped, reading}
+use Rattle.running.specs.Stages.{Part, stagedEvent, stagedReading, nodesOf, bareStep, bareAnswer, AllInStage}
+use Rattle.running.proofs.Stages.{event-bare, reading-bare}
+use Rattle.running.proofs.InStage.{stopped-in-stage}
 use Rattle.running.specs.Cells.{Marks, Marked, cellOf, planFor}
 use Rattle.compiler.specs.declared.Compiled.{Compiled}
 use Rattle.compiler.specs.Compiles.{Compiles, sizeOf}
@@ -192,6 +195,20 @@ module _ {bytes : List ℕ} {room : ℕ} {a : Compiled} {plan : List ℕ} (compi
 pub bigger-boards-same : {plan run held tree : List ℕ} {r : Reading} {held-after tree-after : List ℕ}
     → Reads plan run held tree r held-after tree-after → OnBiggerBoards plan run held tree r tree-after
 bigger-boards-same read = bigger-boards read
+
+-- Stages: with the labels mapped away, running a plan with labels is running it without, event by event and as a whole; so trees, places,
+-- counts and expected kinds stay, and all that is promised of them
+pub stages-leave-each-event : (p : Plan) (free : ℕ → Bool) (k : ℕ) (held : List Part)
+    → bareStep (stagedEvent p free k held) ≡ event p free k (nodesOf held)
+stages-leave-each-event p free k held = event-bare p free k held
+
+pub stages-leave-the-reading : (p : Plan) (free : ℕ → Bool) (run : List ℕ) → bareAnswer (stagedReading p free run) ≡ reading p free run
+stages-leave-the-reading p free run = reading-bare p free run
+
+-- and a part's label is that of the innermost tagged node above it, on a way down to it from the start
+pub parts-in-their-stages : (p : Plan) (free : ℕ → Bool) (run : List ℕ) {number place : ℕ} {held : List Part}
+    → stagedReading p free run ≡ stopped number place held → AllInStage p held
+parts-in-their-stages p free run is = stopped-in-stage p free run is
 
 -- What was expected is one set: two sets of 64 kinds that have the kinds next behind a beginning are equal
 pub next-kinds-once : {b : Book} {before : List ℕ} {one other : ℕ} → one < 2 ^ 64 → other < 2 ^ 64 → NextKinds b before one

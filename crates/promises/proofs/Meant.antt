@@ -14,7 +14,9 @@ use Rattle.book.specs.Form.{DONE, bookOf}
 use Rattle.book.specs.declared.Judged.{Judged}
 use Rattle.grammar.specs.Derivations.{Lawful}
 use Rattle.running.specs.Running.{DEEP, Plan, withSlots, unlimited, Answer, accepted, reading}
+use Rattle.running.specs.Stages.{stagedReading, bareAnswer}
 use Rattle.running.specs.Cells.{planFor}
+use Rattle.running.proofs.Stages.{reading-bare}
 use Rattle.running.proofs.Agrees.{Agree}
 use Rattle.running.proofs.Expected.{Carried, carried-stopped, reading-carried, expected-agrees}
 use Rattle.running.proofs.Records.{records-few, records-events, records-empty}
@@ -93,43 +95,50 @@ module _ {bytes : List ℕ} {room : ℕ} {a : Compiled} {plan : List ℕ} (compi
   abbrev free-answer : List ℕ → Answer
   free-answer run = reading by-facts unlimited run
 
+  -- the plan by its bytes
+  abbrev written : Plan
+  written = planOf (planBytes (bookOf bytes) (known .marks))
+
   -- a reading of the plan runs it
   reads-run : (run : List ℕ) (slots tree-room : ℕ) → length run ≤ 65535 → 0 < slots
       → readOf (take (a .size) plan) run slots tree-room
-      ≡ outcomeOf (planOf (planBytes (bookOf bytes) (known .marks))) (length run) tree-room (reading by-facts (withSlots slots) run)
+      ≡ outcomeOf written (length run) tree-room (stagedReading written (withSlots slots) run)
   unfolding runOf
   reads-run run slots tree-room short some =
-      let written = planBytes (bookOf bytes) (known .marks) in
-      let judged-done : planJudged written .number ≡ DONE =
+      let bytes-of = planBytes (bookOf bytes) (known .marks) in
+      let judged-done : planJudged bytes-of .number ≡ DONE =
       ap (λ (j : Judged). j .number) (plan-done (bookOf bytes) (known .marks) book-formed) in
-      ap (λ (given : List ℕ). readOf given run slots tree-room) given-plan
-      ∙ read-runs written run slots tree-room judged-done short some
-      ∙ ap (outcomeOf (planOf written) (length run) tree-room) (plan-reads (bookOf bytes) (known .marks) book-formed (withSlots slots) run)
+      ap (λ (given : List ℕ). readOf given run slots tree-room) given-plan ∙ read-runs bytes-of run slots tree-room judged-done short some
 
-  -- with slots enough a reading comes to what the machine without a limit answers
-  reads-free : (run : List ℕ) (slots tree-room : ℕ) → length run ≤ 65535 → slotsEnough (bookOf bytes .count) (length run) ≤ slots
-      → readOf (take (a .size) plan) run slots tree-room
-      ≡ outcomeOf (planOf (planBytes (bookOf bytes) (known .marks))) (length run) tree-room (free-answer run)
-  reads-free run slots tree-room short enough =
-      reads-run run slots tree-room short (omega arith)
-      ∙ ap (outcomeOf (planOf (planBytes (bookOf bytes) (known .marks))) (length run) tree-room) (slots-free by-facts run slots enough)
+  -- with slots enough it is, but for the labels, what the machine without a limit answers
+  reads-free : (run : List ℕ) (slots : ℕ) → slotsEnough (bookOf bytes .count) (length run) ≤ slots
+      → bareAnswer (stagedReading written (withSlots slots) run) ≡ free-answer run
+  reads-free run slots enough =
+      reading-bare written (withSlots slots) run
+      ∙ plan-reads (bookOf bytes) (known .marks) book-formed (withSlots slots) run
+      ∙ slots-free by-facts run slots enough
 
   -- so it is as the book means, where the tree has room for the records of an accepted run
-  reads-meant : (run : List ℕ) (tree-room : ℕ)
-      → ((records : List ℕ) → free-answer run ≡ accepted records → length records ≤ tree-room)
-      → Meant bytes run tree-room (outcomeOf (planOf (planBytes (bookOf bytes) (known .marks))) (length run) tree-room (free-answer run))
-  reads-meant run tree-room fits =
+  reads-meant : (run : List ℕ) (slots tree-room : ℕ) → slotsEnough (bookOf bytes .count) (length run) ≤ slots
+      → ((records : List ℕ) → stagedReading written (withSlots slots) run ≡ accepted records → length records ≤ tree-room)
+      → Meant bytes run tree-room (outcomeOf written (length run) tree-room (stagedReading written (withSlots slots) run))
+  reads-meant run slots tree-room enough fits =
       let passes = passed-passes compiled is in
       let agree = plan-agrees (bookOf bytes) (known .marks) book-formed in
-      reads-as-meant passes _ tree-room (reading-means passes (known .marks) (known .marked) run)
-      (tells-agree agree (reading-carried agree unlimited run) (reading-tells passes (known .marks) (known .marked) run)) fits
+      let bare = reads-free run slots enough in
+      reads-as-meant passes written tree-room (rw bare (reading-means passes (known .marks) (known .marked) run))
+      (rw bare (tells-agree agree (reading-carried agree unlimited run) (reading-tells passes (known .marks) (known .marked) run))) fits
 
   pub passed-reads : (run : List ℕ) (slots tree-room : ℕ) → length run ≤ 65535
       → slotsEnough (bookOf bytes .count) (length run) ≤ slots → roomEnough (bookOf bytes .count) (length run) ≤ tree-room
       → Meant bytes run tree-room (readOf (take (a .size) plan) run slots tree-room)
+  unfolding bareAnswer
   passed-reads run slots tree-room short slots-do room-does =
-      rw (reads-free run slots tree-room short slots-do)
-      (reads-meant run tree-room (λ records e. let few = records-few by-facts unlimited run e in omega arith))
+      rw (reads-run run slots tree-room short (omega arith))
+      (reads-meant run slots tree-room slots-do
+      (λ records e.
+      let few = records-few by-facts unlimited run (sym (reads-free run slots slots-do) ∙ ap bareAnswer e) in
+      omega arith))
 
   -- whatever the slots and the tree room, where the answer is neither DEEP nor NO ROOM
   pub passed-reads-any : (run : List ℕ) (slots tree-room : ℕ) → length run ≤ 65535
@@ -138,13 +147,12 @@ module _ {bytes : List ℕ} {room : ℕ} {a : Compiled} {plan : List ℕ} (compi
       → Meant bytes run tree-room (readOf (take (a .size) plan) run slots tree-room)
   passed-reads-any run slots tree-room short not-deep roomy =
       let more = slots + slotsEnough (bookOf bytes .count) (length run) in
-      let p = planOf (planBytes (bookOf bytes) (known .marks)) in
-      let is = slots-more (take (a .size) plan) run slots tree-room more (omega arith) not-deep ∙ reads-free run more tree-room short (omega arith) in
+      let is = slots-more (take (a .size) plan) run slots tree-room more (omega arith) not-deep ∙ reads-run run more tree-room short (omega arith) in
       rw is
-      (reads-meant run tree-room
+      (reads-meant run more tree-room (omega arith)
       (λ records e.
-      room-fits p (length run) tree-room records
-      (λ full. roomy (ap (λ (o : Outcome). o .reading .number) (is ∙ ap (outcomeOf p (length run) tree-room) e) ∙ full))))
+      room-fits written (length run) tree-room records
+      (λ full. roomy (ap (λ (o : Outcome). o .reading .number) (is ∙ ap (outcomeOf written (length run) tree-room) e) ∙ full))))
 
   -- an accepted run, also where the tree has no room: the records counted are those of the machine by the facts
   counted : (run : List ℕ) (slots tree-room : ℕ)
@@ -152,8 +160,7 @@ module _ {bytes : List ℕ} {room : ℕ} {a : Compiled} {plan : List ℕ} (compi
       → (records : List ℕ) × (reading by-facts (withSlots slots) run ≡ accepted records)
       × (readOf (take (a .size) plan) run slots tree-room .reading .records ≡ length records)
   counted run slots tree-room accepts =
-      let written = planBytes (bookOf bytes) (known .marks) in
-      let found = records-counted (read-told written run slots tree-room) (rw given-plan at accepts) in
+      let found = records-counted (read-told (planBytes (bookOf bytes) (known .marks)) run slots tree-room) (rw given-plan at accepts) in
       rw given-plan
       (found .0, sym (plan-reads (bookOf bytes) (known .marks) book-formed (withSlots slots) run) ∙ found .1, found .2)
 

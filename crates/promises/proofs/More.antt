@@ -11,7 +11,9 @@ use lib.ListN.{length, length-append, replicate-append-replicate}
 use Rattle.words.specs.Words.{zeros}
 use Rattle.book.specs.Form.{DONE}
 use Rattle.plan.specs.Form.{planOf, planJudged}
-use Rattle.running.specs.Running.{DEEP, UNKNOWN, UNEXPECTED, END, RUNAWAY, Plan, withSlots, Answer, accepted, stopped, reading}
+use Rattle.running.specs.Running.{DEEP, UNKNOWN, UNEXPECTED, END, RUNAWAY, Plan, withSlots, AnswerOf, accepted, stopped, reading}
+use Rattle.running.specs.Stages.{Part, stagedReading}
+use Rattle.running.proofs.Stages.{reading-bare, accepted-with}
 use Rattle.running.proofs.Longer.{stopped-stays}
 use Rattle.running.proofs.Slots.{more-slots}
 use Rattle.reader.specs.declared.Reading.{Reading}
@@ -54,7 +56,7 @@ module _ (plan run : List ℕ) (slots room more : ℕ) (grows : slots ≤ more) 
       absurd (not-deep (ap (λ (o : Outcome). o .reading .number) (read-slotless plan run slots room good short none)))
   slots-by (by-run good short some) =
       let here = read-runs plan run slots room good short some in
-      let same : reading (planOf plan) (withSlots slots) run ≡ reading (planOf plan) (withSlots more) run =
+      let same : stagedReading (planOf plan) (withSlots slots) run ≡ stagedReading (planOf plan) (withSlots more) run =
       more-slots (planOf plan) run slots more grows
       (λ i held deep. not-deep (ap (λ (o : Outcome). o .reading .number) (here ∙ ap (outcomeOf (planOf plan) (length run) room) deep)))
       in
@@ -83,7 +85,7 @@ module _ (room more : ℕ) (grows : room ≤ more) where
   bare-wider : (r : Reading) → bare more r ≡ wider room more (bare room r)
   bare-wider r = λ i. outcome r (zeros-wider room more grows i)
 
-  outcome-wider : (p : Plan) (size : ℕ) (a : Answer) → outcomeOf p size room a .reading .number ≢ NO-ROOM
+  outcome-wider : (p : Plan) (size : ℕ) (a : AnswerOf Part) → outcomeOf p size room a .reading .number ≢ NO-ROOM
       → outcomeOf p size more a ≡ wider room more (outcomeOf p size room a)
   unfolding outcomeOf acceptedOf
   outcome-wider p size (accepted records) roomy =
@@ -113,7 +115,7 @@ module _ (room more : ℕ) (grows : room ≤ more) where
     room-by (by-run good short some) =
         let here = read-runs plan run slots room good short some in
         read-runs plan run slots more good short some
-        ∙ outcome-wider (planOf plan) (length run) (reading (planOf plan) (withSlots slots) run)
+        ∙ outcome-wider (planOf plan) (length run) (stagedReading (planOf plan) (withSlots slots) run)
         (λ e. roomy (ap (λ (o : Outcome). o .reading .number) here ∙ e))
         ∙ ap (wider room more) (sym here)
 
@@ -145,7 +147,8 @@ room-filled plan run slots room more full =
     by-course (by-length good long) records is = absurd (omega (arith, number-of (read-long plan run slots room good long)))
     by-course (by-slots good short none) records is = absurd (omega (arith, number-of (read-slotless plan run slots room good short none)))
     by-course (by-run good short some) records is =
-        let here = read-runs plan run slots more good short some ∙ ap (outcomeOf (planOf plan) (length run) more) is in
+        let staged = accepted-with _ (reading-bare (planOf plan) (withSlots slots) run ∙ is) in
+        let here = read-runs plan run slots more good short some ∙ ap (outcomeOf (planOf plan) (length run) more) staged in
         elim (decLe (length records) more) [
           | yes fits ↦ room-now records refl fits (here ∙ rw (le-leb (length records) more fits))
           | no small ↦ no-room-still (omega arith) (here ∙ rw (lt-leb (length records) more (omega arith)))
@@ -167,8 +170,9 @@ event-shallow (inr (inl is)) = omega arith
 event-shallow (inr (inr is)) = omega arith
 
 module _ (plan run more : List ℕ) (slots room : ℕ) (few : length (run ++ more) ≤ 65535) where
-  outcome-longer : (a : Answer) → reading (planOf plan) (withSlots slots) run ≡ a → Stopped (outcomeOf (planOf plan) (length run) room a .reading .number)
-      → outcomeOf (planOf plan) (length (run ++ more)) room (reading (planOf plan) (withSlots slots) (run ++ more))
+  outcome-longer : (a : AnswerOf Part) → stagedReading (planOf plan) (withSlots slots) run ≡ a
+      → Stopped (outcomeOf (planOf plan) (length run) room a .reading .number)
+      → outcomeOf (planOf plan) (length (run ++ more)) room (stagedReading (planOf plan) (withSlots slots) (run ++ more))
       ≡ outcomeOf (planOf plan) (length run) room a
   unfolding outcomeOf acceptedOf
   outcome-longer (accepted records) is other =
@@ -196,7 +200,7 @@ module _ (plan run more : List ℕ) (slots room : ℕ) (few : length (run ++ mor
 
 -- a refusal of the run itself leaves whatever tree zero
 module _ (plan run : List ℕ) (slots room other : ℕ) where
-  outcome-refused : (a : Answer) → Stopped (outcomeOf (planOf plan) (length run) room a .reading .number)
+  outcome-refused : (a : AnswerOf Part) → Stopped (outcomeOf (planOf plan) (length run) room a .reading .number)
       → outcomeOf (planOf plan) (length run) other a ≡ bare other (outcomeOf (planOf plan) (length run) room a .reading)
   unfolding outcomeOf acceptedOf
   outcome-refused (accepted records) refusal =

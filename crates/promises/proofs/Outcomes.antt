@@ -13,13 +13,14 @@ use lib.Seq.{take-all}
 use Rattle.words.specs.Words.{zeros}
 use Rattle.book.specs.Book.{Book}
 use Rattle.book.specs.Form.{DONE}
-use Rattle.running.specs.Running.{UNKNOWN, UNEXPECTED, END, Plan, Answer, accepted, stopped, tells}
+use Rattle.running.specs.Running.{UNKNOWN, UNEXPECTED, END, Plan, Answer, AnswerOf, accepted, stopped, expected, tells}
+use Rattle.running.specs.Stages.{Part, bareAnswer}
 use Rattle.reader.specs.Numbers.{answered}
 use Rattle.reader.specs.Reads.{Outcome, outcome, acceptedOf, outcomeOf}
 use Rattle.grammar.specs.Derivations.{Lawful}
 use Rattle.grammar.specs.Passing.{Passes}
 use Rattle.meaning.specs.Meaning.{tree, Refuses, Ends, refusalOf, Means, means-accepted, means-refused, means-end, withoutParts}
-use Rattle.meaning.specs.Meaning.{NextKinds, Tells, tells-none, tells-next}
+use Rattle.meaning.specs.Meaning.{NextKinds, Tells, tells-next}
 use Rattle.meaning.proofs.Verdict.{means-unique}
 use Rattle.promises.specs.Promises.{ReadsAsMeant}
 
@@ -43,10 +44,10 @@ bare-place size (accepted records) = refl
 bare-place size (stopped number place held) = refl
 
 -- an answer that is accepted without its parts is accepted
-bare-accepted : (a : Answer) {records : List ℕ} → withoutParts a ≡ accepted records → a ≡ accepted records
-unfolding withoutParts
-bare-accepted (accepted records) e = e
-bare-accepted (stopped number place held) e = cc
+bare-accepted : (a : AnswerOf Part) {records : List ℕ} → withoutParts (bareAnswer a) ≡ accepted records → a ≡ accepted records
+unfolding withoutParts bareAnswer
+bare-accepted (accepted more) {records} e = let same : more ≡ records = cc in ap accepted same
+bare-accepted (stopped number place held) e = let never : _≡_ {A = ℕ} 0 1 = cc in absurd (omega arith)
 
 -- which number an event is refused with, by its kind
 module _ (kinds k : ℕ) where
@@ -78,15 +79,15 @@ module _ (p : Plan) (size room : ℕ) where
   unfolding outcomeOf acceptedOf
   accepted-outcome records fits = rw (le-leb (length records) room fits)
 
-  outcome-number : (a : Answer) → ((records : List ℕ) → a ≡ accepted records → length records ≤ room)
-      → outcomeOf p size room a .reading .number ≡ numberOf a
-  unfolding outcomeOf numberOf
+  outcome-number : (a : AnswerOf Part) → ((records : List ℕ) → a ≡ accepted records → length records ≤ room)
+      → outcomeOf p size room a .reading .number ≡ numberOf (bareAnswer a)
+  unfolding outcomeOf numberOf bareAnswer
   outcome-number (accepted records) fits = ap (λ (o : Outcome). o .reading .number) (accepted-outcome records (fits records refl))
   outcome-number (stopped number place held) fits = refl
 
-  outcome-place : (a : Answer) → ((records : List ℕ) → a ≡ accepted records → length records ≤ room)
-      → outcomeOf p size room a .reading .place ≡ placeOf size a
-  unfolding outcomeOf placeOf
+  outcome-place : (a : AnswerOf Part) → ((records : List ℕ) → a ≡ accepted records → length records ≤ room)
+      → outcomeOf p size room a .reading .place ≡ placeOf size (bareAnswer a)
+  unfolding outcomeOf placeOf bareAnswer
   outcome-place (accepted records) fits = ap (λ (o : Outcome). o .reading .place) (accepted-outcome records (fits records refl))
   outcome-place (stopped number place held) fits = refl
 
@@ -131,22 +132,26 @@ module _ {b : Book} {run : List ℕ} where
 
 -- the kinds that a refusal tells, by its number
 module _ {b : Book} {run : List ℕ} {p : Plan} (size room : ℕ) where
-  -- an outcome whose number tells has the kinds next
-  told-next : {a : Answer} → Tells b run p a → tells (numberOf a) ≡ true
-      → NextKinds b (take (placeOf size a) run) (outcomeOf p size room a .reading .expected)
-  unfolding outcomeOf numberOf placeOf
-  told-next tells-none is = absurd (false≢true is)
-  told-next (tells-next next) is = rw is next
+  kinds-next : {number i : ℕ} {held : List ℕ} → Tells b run p (stopped number i held) → NextKinds b (take i run) (expected p held)
+  kinds-next (tells-next next) = next
 
-module _ {b : Book} (passes : Passes b) {run : List ℕ} (p : Plan) (room : ℕ) {a : Answer} (means : Means b run a) (tell : Tells b run p a)
+  -- an outcome whose number tells has the kinds next
+  told-next : (a : AnswerOf Part) → Tells b run p (bareAnswer a) → tells (numberOf (bareAnswer a)) ≡ true
+      → NextKinds b (take (placeOf size (bareAnswer a)) run) (outcomeOf p size room a .reading .expected)
+  unfolding outcomeOf numberOf placeOf bareAnswer
+  told-next (accepted records) tell is = absurd (false≢true is)
+  told-next (stopped number i held) tell is = rw is (kinds-next tell)
+
+module _ {b : Book} (passes : Passes b) {run : List ℕ} (p : Plan) (room : ℕ) {a : AnswerOf Part} (means : Means b run (bareAnswer a))
+    (tell : Tells b run p (bareAnswer a))
     (fits : (records : List ℕ) → a ≡ accepted records → length records ≤ room) where
   -- another answer that means the run has the same number and the same place
   same-number : {other : Answer} → Means b run other → outcomeOf p (length run) room a .reading .number ≡ numberOf other
-  same-number m = outcome-number p _ room a fits ∙ sym (bare-number a) ∙ ap numberOf (means-unique passes means m) ∙ bare-number _
+  same-number m = outcome-number p _ room a fits ∙ sym (bare-number (bareAnswer a)) ∙ ap numberOf (means-unique passes means m) ∙ bare-number _
 
   same-place : {other : Answer} → Means b run other → outcomeOf p (length run) room a .reading .place ≡ placeOf (length run) other
   same-place m =
-      outcome-place p _ room a fits ∙ sym (bare-place _ a) ∙ ap (placeOf (length run)) (means-unique passes means m) ∙ bare-place _ _
+      outcome-place p _ room a fits ∙ sym (bare-place _ (bareAnswer a)) ∙ ap (placeOf (length run)) (means-unique passes means m) ∙ bare-place _ _
 
   accepted-is : (d : Lawful b run) → a ≡ accepted (tree (b .start) d)
   unfolding withoutParts
@@ -164,8 +169,8 @@ module _ {b : Book} (passes : Passes b) {run : List ℕ} (p : Plan) (room : ℕ)
   next-kinds : (number : ℕ) → tells number ≡ true → outcomeOf p (length run) room a .reading .number ≡ number
       → NextKinds b (take (outcomeOf p (length run) room a .reading .place) run) (outcomeOf p (length run) room a .reading .expected)
   next-kinds number told is =
-      let same : numberOf a ≡ number = sym (outcome-number p _ room a fits) ∙ is in
-      rw (outcome-place p _ room a fits) (told-next (length run) room tell (rw same told))
+      let same : numberOf (bareAnswer a) ≡ number = sym (outcome-number p _ room a fits) ∙ is in
+      rw (outcome-place p _ room a fits) (told-next (length run) room a tell (rw same told))
 
   pub reads-as-meant : ReadsAsMeant b run room (outcomeOf p (length run) room a .reading) (outcomeOf p (length run) room a .tree)
   unfolding numberOf placeOf

@@ -16,6 +16,7 @@ use Rattle.grammar.specs.Passing.{AllReached, Fruitful, NoConflict}
 use Rattle.grammar.specs.Derivations.{Lawful}
 use Rattle.running.specs.Running.{DEEP, UNKNOWN, UNEXPECTED, END, RUNAWAY, withSlots, accepted, stopped}
 use Rattle.running.specs.Running.{Next, reading, tells}
+use Rattle.running.specs.Stages.{Part, stagedReading, stageOf, nodesOf}
 use Rattle.running.specs.Cells.{Marks, Marked, cellOf}
 use Rattle.plan.specs.Form.{cellAt, planCount, planOf, planJudged}
 use Rattle.writer.specs.Bytes.{planBytes}
@@ -37,8 +38,9 @@ pub record CompileAnswers (room : ℕ) (a : Compiled) (plan : List ℕ) : Type 0
 
 -- Demand 1, reading, for all bytes, forged plans included: the answer is 0 or one of 8 to 16, and a refusal leaves
 -- the whole tree buffer zero; the count of records is that of the list that running the plan gives, at most (2N − 2)
--- times the events, and one; `expected` has, at 12, 13 and 14, the kinds that by the rows may come next where the parts
--- held before the event refused, or before the end, are held, and at other numbers none; no slot is DEEP
+-- times the events, and one; at 12, 13 and 14 `label` is that of the part held last before the event refused, or before
+-- the end, and `expected` has the kinds that by the rows may come next there; at other numbers both are 0; no slot is
+-- DEEP
 pub record ReadAnswers (plan run : List ℕ) (slots room : ℕ) (r : Reading) (after : List ℕ) : Type 0 where
   pub listed : (r .number ≡ DONE) ⊎ ((8 ≤ r .number) × (r .number ≤ 16))
   pub whole : length after ≡ room
@@ -48,9 +50,10 @@ pub record ReadAnswers (plan run : List ℕ) (slots room : ℕ) (r : Reading) (a
       × (r .records ≡ length records)
   pub few-records : r .records ≤ (2 * planCount plan - 2) * length run + 1
   pub expects : tells (r .number) ≡ true
-      → (before : List ℕ) × (reading (planOf plan) (withSlots slots) run ≡ stopped (r .number) (r .place) before)
-      × ((k : ℕ) → Has (r .expected) k ↔ Next (planOf plan) k before)
-  pub expects-none : tells (r .number) ≡ false → r .expected ≡ 0
+      → (before : List Part)
+      × (stagedReading (planOf plan) (withSlots slots) run ≡ stopped (r .number) (r .place) before)
+      × (r .label ≡ stageOf before) × ((k : ℕ) → Has (r .expected) k ↔ Next (planOf plan) k (nodesOf before))
+  pub expects-none : tells (r .number) ≡ false → (r .label ≡ 0) × (r .expected ≡ 0)
   pub no-slot : slots ≡ 0 → planJudged plan .number ≡ DONE → length run ≤ 65535 → r ≡ answered DEEP 0 0 0
 
 -- Demand 2: given plan room enough, a well-formed book passes exactly when every node is reachable from the start, the

@@ -10,13 +10,15 @@ use lib.Dec.{ltb, leb, eqb}
 use lib.ListN.{length, length-append, length-replicate}
 use Rattle.words.specs.Words.{zeros}
 use Rattle.book.specs.Form.{DONE}
-use Rattle.running.specs.Running.{Plan, withSlots, Answer, accepted, stopped, expected, tells, reading, DEEP, UNKNOWN}
+use Rattle.running.specs.Running.{Plan, withSlots, AnswerOf, accepted, stopped, expected, tells, reading, DEEP, UNKNOWN}
+use Rattle.running.specs.Stages.{Part, stagedReading, stageOf, nodesOf, bareAnswer}
+use Rattle.running.proofs.Stages.{reading-bare}
 use Rattle.book.specs.Form.{judged}
 use Rattle.words.specs.Lists.{firstBad}
 use Rattle.book.specs.declared.Judged.{Judged}
 use Rattle.plan.specs.Form.{PLAN-FORM, CELL, planOf, planCount, planKinds, planJudged, planGood, cellGood, cellsJudged}
 use Rattle.reader.specs.declared.Reading.{Reading}
-use Rattle.reader.specs.Numbers.{LONG, NO-ROOM, answered, refusal}
+use Rattle.reader.specs.Numbers.{LONG, NO-ROOM, answered, told, refusal}
 use Rattle.reader.specs.Reads.{Outcome, Reads, bare, acceptedOf, outcomeOf, runOf, readOf}
 use Rattle.running.proofs.Records.{records-few}
 use Rattle.reader.proofs.Refusals.{AnswerNumbered, numbered-stopped, reading-numbered}
@@ -38,18 +40,25 @@ by-test P false holds fails = fails refl
 module _ (p : Plan) (free : ℕ → Bool) (run : List ℕ) (room : ℕ) where
   -- an outcome is that of an accepted run's records, or a refusal of 8 to 15 with no records and a bare tree
   pub data Told : Outcome → Type 0 where
-    told-accepted : (records : List ℕ) → reading p free run ≡ accepted records → Told (acceptedOf (length run) room records)
-    told-refused : (number place kinds : ℕ) → 8 ≤ number → number ≤ 15 → Told (bare room (answered number place 0 kinds))
+    told-accepted : (records : List ℕ) → stagedReading p free run ≡ accepted records → Told (acceptedOf (length run) room records)
+    told-refused : (number place label kinds : ℕ) → 8 ≤ number → number ≤ 15 → Told (bare room (told number place label kinds))
+
+  -- a run accepted with labels is accepted without
+  pub accepted-bare : {records : List ℕ} → stagedReading p free run ≡ accepted records → reading p free run ≡ accepted records
+  unfolding bareAnswer
+  accepted-bare is = sym (reading-bare p free run) ∙ ap bareAnswer is
 
   -- what running a plan comes to
-  pub run-told : Told (outcomeOf p (length run) room (reading p free run))
+  pub run-told : Told (outcomeOf p (length run) room (stagedReading p free run))
   unfolding outcomeOf
-  run-told = by-answer (reading p free run) refl (reading-numbered p free run)
+  run-told = by-answer (stagedReading p free run) refl (reading-numbered p free run)
     where
-      by-answer : (answer : Answer) → reading p free run ≡ answer → AnswerNumbered answer → Told (outcomeOf p (length run) room answer)
+      by-answer : (answer : AnswerOf Part) → stagedReading p free run ≡ answer → AnswerNumbered answer
+          → Told (outcomeOf p (length run) room answer)
       by-answer (accepted records) is numbered = told-accepted records is
       by-answer (stopped number place held) is (numbered-stopped _ low high) =
-          told-refused number place (cond (tells number) (expected p held) 0) (omega arith) (omega arith)
+          told-refused number place (cond (tells number) (stageOf held) 0) (cond (tells number) (expected p (nodesOf held)) 0)
+          (omega arith) (omega arith)
 
 -- a plan that is not judged done is 8 or 9
 pub judged-bad : (plan : List ℕ) → (planJudged plan .number ≡ DONE → ⊥) → (8 ≤ planJudged plan .number) × (planJudged plan .number ≤ 9)
@@ -76,35 +85,37 @@ read-told plan run slots room =
     (λ good. by-test ToldSo (leb (length run) 65535)
     (λ short. by-test ToldSo (ltb 0 slots)
     (λ some. run-told (planOf plan) (withSlots slots) run room)
-    (λ none. told-refused DEEP 0 0 (omega arith) (omega arith)))
-    (λ long. told-refused LONG 0 0 (omega arith) (omega arith)))
+    (λ none. told-refused DEEP 0 0 0 (omega arith) (omega arith)))
+    (λ long. told-refused LONG 0 0 0 (omega arith) (omega arith)))
     (λ bad. let (low, high) = judged-bad plan (eqb-false _ _ bad) in
-    told-refused (planJudged plan .number) (planJudged plan .place) 0 low (omega arith))
+    told-refused (planJudged plan .number) (planJudged plan .place) 0 0 low (omega arith))
   where
     ToldSo : Outcome → Type 0
     ToldSo o = Told (planOf plan) (withSlots slots) run room o
 
--- what is expected: of a refusal that tells it, by the parts held before the event or the end at its place; of any other answer nothing
+-- the stage, and what is expected: of a refusal that tells them, by the parts held before the event or the end at its place; of any other
+-- answer nothing
 pub record Expects (p : Plan) (free : ℕ → Bool) (run : List ℕ) (r : Reading) : Type 0 where
   pub told : tells (r .number) ≡ true
-      → (before : List ℕ) × (reading p free run ≡ stopped (r .number) (r .place) before) × (r .expected ≡ expected p before)
-  pub silent : tells (r .number) ≡ false → r .expected ≡ 0
+      → (before : List Part) × (stagedReading p free run ≡ stopped (r .number) (r .place) before) × (r .label ≡ stageOf before)
+      × (r .expected ≡ expected p (nodesOf before))
+  pub silent : tells (r .number) ≡ false → (r .label ≡ 0) × (r .expected ≡ 0)
 
 module _ (p : Plan) (free : ℕ → Bool) (run : List ℕ) where
   -- an answer that tells nothing
   quiet : (number place records : ℕ) → tells number ≡ false → Expects p free run (answered number place records 0)
-  quiet number place records silent = record { told = λ told. absurd (false≢true (sym silent ∙ told)); silent = λ none. refl }
+  quiet number place records silent = record { told = λ loud. absurd (false≢true (sym silent ∙ loud)); silent = λ none. (refl, refl) }
 
-  refusal-expects : (number place : ℕ) (before : List ℕ) → reading p free run ≡ stopped number place before
-      → Expects p free run (refusal number place (expected p before))
+  refusal-expects : (number place : ℕ) (before : List Part) → stagedReading p free run ≡ stopped number place before
+      → Expects p free run (refusal number place (stageOf before) (expected p (nodesOf before)))
   refusal-expects number place before is =
-      record { told = λ told. (before, is, rw told refl); silent = λ none. rw none refl }
+      record { told = λ loud. (before, is, rw loud refl, rw loud refl); silent = λ none. (rw none refl, rw none refl) }
 
-  run-expects : (room : ℕ) → Expects p free run (outcomeOf p (length run) room (reading p free run) .reading)
+  run-expects : (room : ℕ) → Expects p free run (outcomeOf p (length run) room (stagedReading p free run) .reading)
   unfolding outcomeOf acceptedOf
-  run-expects room = by-answer (reading p free run) refl
+  run-expects room = by-answer (stagedReading p free run) refl
     where
-      by-answer : (answer : Answer) → reading p free run ≡ answer → Expects p free run (outcomeOf p (length run) room answer .reading)
+      by-answer : (answer : AnswerOf Part) → stagedReading p free run ≡ answer → Expects p free run (outcomeOf p (length run) room answer .reading)
       by-answer (accepted records) is =
           by-test (λ o. Expects p free run (o .reading)) (leb (length records) room)
           (λ fits. quiet DONE _ _ refl) (λ full. quiet NO-ROOM _ _ refl)
@@ -141,7 +152,7 @@ module _ {p : Plan} {free : ℕ → Bool} {run : List ℕ} {room : ℕ} where
   unfolding acceptedOf
   number-listed (told-accepted records is) =
       by-test NumberListed (leb (length records) room) (λ fits. inl refl) (λ full. inr (omega arith))
-  number-listed (told-refused number place kinds low high) = inr (omega arith)
+  number-listed (told-refused number place label kinds low high) = inr (omega arith)
 
   -- the tree keeps its length
   pub tree-length : {o : Outcome} → Told p free run room o → length (o .tree) ≡ room
@@ -150,7 +161,7 @@ module _ {p : Plan} {free : ℕ → Bool} {run : List ℕ} {room : ℕ} where
       by-test (λ o. length (o .tree) ≡ room) (leb (length records) room)
       (λ fits. simp (length-append, length-replicate) (omega (arith, leb-true (length records) room fits)))
       (λ full. length-replicate room 0)
-  tree-length (told-refused number place kinds low high) = length-replicate room 0
+  tree-length (told-refused number place label kinds low high) = length-replicate room 0
 
   -- every refusal leaves the tree zero
   pub refused-zero : {o : Outcome} → Told p free run room o → (o .reading .number ≡ DONE → ⊥) → o .tree ≡ zeros room
@@ -158,15 +169,15 @@ module _ {p : Plan} {free : ℕ → Bool} {run : List ℕ} {room : ℕ} where
   refused-zero (told-accepted records is) =
       by-test (λ o. (o .reading .number ≡ DONE → ⊥) → o .tree ≡ zeros room) (leb (length records) room)
       (λ fits refused. absurd (refused refl)) (λ full refused. refl)
-  refused-zero (told-refused number place kinds low high) = λ refused. refl
+  refused-zero (told-refused number place label kinds low high) = λ refused. refl
 
   -- the count of records is the length of the definition's record list, and of nothing else
   pub records-counted : {o : Outcome} → Told p free run room o → (o .reading .number ≡ DONE) ⊎ (o .reading .number ≡ NO-ROOM)
       → (records : List ℕ) × (reading p free run ≡ accepted records) × (o .reading .records ≡ length records)
   unfolding acceptedOf
   records-counted (told-accepted records is) answered-so =
-      (records, is, by-test (λ o. o .reading .records ≡ length records) (leb (length records) room) (λ fits. refl) (λ full. refl))
-  records-counted (told-refused number place kinds low high) answered-so =
+      (records, accepted-bare p free run room is, by-test (λ o. o .reading .records ≡ length records) (leb (length records) room) (λ fits. refl) (λ full. refl))
+  records-counted (told-refused number place label kinds low high) answered-so =
       absurd (⊎-elim (λ done. omega arith) (λ full. omega arith) answered-so)
 
   -- at most (2N − 2) · events + 1 records
@@ -174,8 +185,8 @@ module _ {p : Plan} {free : ℕ → Bool} {run : List ℕ} {room : ℕ} where
   unfolding acceptedOf
   records-bounded (told-accepted records is) =
       by-test (λ o. o .reading .records ≤ (2 * p .count - 2) * length run + 1) (leb (length records) room)
-      (λ fits. records-few p free run is) (λ full. records-few p free run is)
-  records-bounded (told-refused number place kinds low high) = omega arith
+      (λ fits. records-few p free run (accepted-bare p free run room is)) (λ full. records-few p free run (accepted-bare p free run room is))
+  records-bounded (told-refused number place label kinds low high) = omega arith
 
   -- the records of an accepted run have room in the tree
   pub records-fit : {o : Outcome} → Told p free run room o → o .reading .number ≡ DONE → o .reading .records ≤ room
@@ -183,4 +194,4 @@ module _ {p : Plan} {free : ℕ → Bool} {run : List ℕ} {room : ℕ} where
   records-fit (told-accepted records is) =
       by-test (λ o. o .reading .number ≡ DONE → o .reading .records ≤ room) (leb (length records) room)
       (λ fits done. leb-true (length records) room fits) (λ full done. absurd (omega arith))
-  records-fit (told-refused number place kinds low high) = λ done. absurd (omega arith)
+  records-fit (told-refused number place label kinds low high) = λ done. absurd (omega arith)

@@ -9,7 +9,7 @@ use borrow.Author.Tests.{ne-eqb}
 use lib.ListN.{length, getD, set, length-set}
 use Rattle.book.specs.Form.{DONE}
 use Rattle.running.specs.Running.{Plan, emptied, UNEXPECTED, END}
-use Rattle.reader.specs.Machine.{After, SlotsHold, stands, offOf, walkOf, takeOf, finishOf}
+use Rattle.reader.specs.Machine.{After, SlotsHold, stands, nodeIn, labelIn, offOf, walkOf, takeOf, finishOf}
 use Rattle.reader.proofs.Slots.{held-less}
 
 -- parts taken off by a machine with so many held and records written: what is left comes to the goal, and the state is sound
@@ -20,15 +20,21 @@ pub record Taking (machine : ℕ → ℕ → List ℕ → List ℕ → After) (g
   pub tree-long : length tree ≡ room
   pub small : records + parts ≤ bound
 
--- the part held last
+-- the part held last: its node and its label
 abbrev pub lastAt : List ℕ → ℕ → ℕ
-lastAt held parts = getD held (parts - 1) 0
+lastAt held parts = nodeIn (getD held (parts - 1) 0)
+
+abbrev pub lastLabel : List ℕ → ℕ → ℕ
+lastLabel held parts = labelIn (getD held (parts - 1) 0)
 
 module _ {machine : ℕ → ℕ → List ℕ → List ℕ → After} {goal : After} {nodes slots room bound parts records : ℕ} {held tree : List ℕ}
     (w : Taking machine goal nodes slots room bound parts records held tree) (some : 0 < parts) where
   -- it is a node
   pub last-below : lastAt held parts < nodes
   last-below = w .safe .below (parts - 1) (omega arith)
+
+  pub label-small : lastLabel held parts < 65536
+  label-small = w .safe .labels (parts - 1) (omega arith)
 
   -- its slot stands in the slots
   pub last-inside : parts - 1 < length held
@@ -59,14 +65,14 @@ module _ (p : Plan) (k : ℕ) {goal : After} {nodes slots room bound parts recor
     last : ℕ
     last = lastAt held parts
 
-    taking : offOf (p .cell last k) (p .null last) (walkOf p k (p .count) last (parts - 1) records held tree)
+    taking : offOf (p .cell last k) (p .null last) (walkOf p k (p .count) last (lastLabel held parts) (parts - 1) records held tree)
         (takeOf p k (parts - 1) (records + 1) held (set tree records (emptied last))) (stands UNEXPECTED true (parts - 1) records held tree)
         ≡ goal
     unfolding takeOf last
     taking = rw (add-one records) (rw (one-more w some) at (w .rest))
 
     pub take-walks : (p .cell (lastAt held parts) k ≡ 0 → ⊥)
-        → walkOf p k (p .count) (lastAt held parts) (parts - 1) records held tree ≡ goal
+        → walkOf p k (p .count) (lastAt held parts) (lastLabel held parts) (parts - 1) records held tree ≡ goal
     unfolding offOf last
     take-walks walks = rw (ne-eqb (p .cell (lastAt held parts) k) 0 walks) at taking
 

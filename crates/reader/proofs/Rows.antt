@@ -11,7 +11,8 @@ use lib.ListN.{getD}
 use Rattle.kinds.specs.Kinds.{onlyKind, joined}
 use Rattle.kinds.proofs.Laws.{join-assoc}
 use Rattle.running.specs.Running.{Plan, rowFirst, expected}
-use Rattle.reader.specs.Machine.{stack}
+use Rattle.running.specs.Stages.{nodesOf}
+use Rattle.reader.specs.Machine.{nodeIn, stack}
 
 -- a row with the next kind
 module _ (p : Plan) (n k : ℕ) where
@@ -25,7 +26,7 @@ module _ (p : Plan) (n k : ℕ) where
 
 -- the kinds of the parts passed are joined with those that the parts left expect, and come to the goal
 pub record Joining (p : Plan) (held : List ℕ) (goal set parts : ℕ) : Type 0 where
-  pub rest : joined set (expected p (stack held parts)) ≡ goal
+  pub rest : joined set (expected p (nodesOf (stack held parts))) ≡ goal
 
 module _ (p : Plan) {held : List ℕ} {goal set parts : ℕ} (w : Joining p held goal set parts) where
   -- no part is left
@@ -35,21 +36,21 @@ module _ (p : Plan) {held : List ℕ} {goal set parts : ℕ} (w : Joining p held
 
   module _ (some : 0 < parts) where
     n : ℕ
-    n = getD held (parts - 1) 0
+    n = nodeIn (getD held (parts - 1) 0)
 
-    here : joined set (joined (rowFirst p n (p .kinds)) (cond (p .null n) (expected p (stack held (parts - 1))) 0)) ≡ goal
+    here : joined set (joined (rowFirst p n (p .kinds)) (cond (p .null n) (expected p (nodesOf (stack held (parts - 1)))) 0)) ≡ goal
     unfolding stack expected n
     here = let one : parts ≡ suc (parts - 1) = omega arith in rw one at (w .rest)
 
     -- the part held last is not nullable
-    pub joined-here : {last : ℕ} → last ≡ getD held (parts - 1) 0 → p .null last ≡ false → joined set (rowFirst p last (p .kinds)) ≡ goal
+    pub joined-here : {last : ℕ} → last ≡ nodeIn (getD held (parts - 1) 0) → p .null last ≡ false → joined set (rowFirst p last (p .kinds)) ≡ goal
     unfolding n
     joined-here is null = rw is (rw (rw is at null, or-zero-r) at here)
 
     -- it is nullable
-    pub joined-on : {last : ℕ} → last ≡ getD held (parts - 1) 0 → p .null last ≡ true
+    pub joined-on : {last : ℕ} → last ≡ nodeIn (getD held (parts - 1) 0) → p .null last ≡ true
         → Joining p held goal (joined set (rowFirst p last (p .kinds))) (parts - 1)
     unfolding n
     joined-on is null =
-        let assoc = join-assoc set (rowFirst p n (p .kinds)) (expected p (stack held (parts - 1))) in
+        let assoc = join-assoc set (rowFirst p n (p .kinds)) (expected p (nodesOf (stack held (parts - 1)))) in
         record { rest = rw is (assoc ∙ (rw (rw is at null) at here)) }

@@ -10,9 +10,10 @@ use lib.ListN.{length, getD, drop, drop-of-length-le}
 use lib.Seq.{drop-cons}
 use Rattle.book.specs.Form.{DONE}
 use Rattle.running.specs.Running.{Plan, expected}
+use Rattle.running.specs.Stages.{stageOf, nodesOf}
 use Rattle.reader.specs.Machine.{After, Passed, SlotsHold, stopsAt, stack, eventOf, onOf, finishOf, closeOf, passOf}
 use Rattle.reader.specs.declared.Reading.{Reading}
-use Rattle.reader.specs.Numbers.{answered}
+use Rattle.reader.specs.Numbers.{answered, told}
 use Rattle.reader.specs.Reads.{outcome}
 use Rattle.reader.proofs.Simulation.{Bounded, event-intact}
 use Rattle.reader.proofs.Bounds.{Safe, event-safe}
@@ -30,7 +31,8 @@ module _ (s : After) (at count written : ℕ) (rest : ℕ → ℕ → List ℕ �
 
 -- the end of a run, by how the machine stands after it
 module _ (p : Plan) (at count written : ℕ) (held tree : List ℕ) (s : After) (steps : s ≡ finishOf p count written held tree) where
-  pub close-refused : (s .spot .number ≡ DONE → ⊥) → {r : Reading} → r ≡ answered (s .spot .number) at 0 (expected p (stack held count))
+  pub close-refused : (s .spot .number ≡ DONE → ⊥) → {r : Reading}
+      → r ≡ told (s .spot .number) at (stageOf (stack held count)) (expected p (nodesOf (stack held count)))
       → outcome r (s .tree) ≡ closeOf p at count written held tree
   unfolding closeOf
   close-refused not answers = rw (answers, ← steps, ne-eqb (s .spot .number) DONE not) refl

@@ -11,11 +11,12 @@ use lib.Dec.{ltb, eqb}
 use lib.ListN.{length, getD, set, length-append}
 use lib.Seq.{sets}
 use Rattle.book.specs.Form.{DONE}
-use Rattle.running.specs.Running.{Plan, withSlots, emptied, Step, event, expected, Answer, accepted, stopped, logged, finish}
+use Rattle.running.specs.Running.{Plan, withSlots, emptied, StepOf, expected, AnswerOf, accepted, stopped, logged}
 use Rattle.running.specs.Running.{DEEP, UNKNOWN, END, RUNAWAY}
-use Rattle.reader.specs.Numbers.{answered, refusal}
+use Rattle.running.specs.Stages.{Part, stagedEvent, stagedFinish, stageOf, nodesOf}
+use Rattle.reader.specs.Numbers.{answered, told, refusal}
 use Rattle.reader.specs.Reads.{Outcome, outcome}
-use Rattle.reader.specs.Machine.{After, SlotsHold, Passed, stands, stack, takeOf, eventOf, onOf, passOf, finishOf, closeOf}
+use Rattle.reader.specs.Machine.{After, SlotsHold, Passed, stands, nodeIn, stack, takeOf, eventOf, onOf, passOf, finishOf, closeOf}
 use Rattle.reader.specs.Steps.{Progress, going, over, advanced, step, steps}
 use Rattle.reader.proofs.Slots.{held-less}
 use Rattle.reader.proofs.Fold.{over-stays}
@@ -36,7 +37,7 @@ Rest = ℕ → ℕ → List ℕ → List ℕ → Passed
 
 module _ (p : Plan) (slots : ℕ) where
   -- all events were taken: the parts held are those in the slots, the records are stored in the tree
-  pub record SameGoing (tree : List ℕ) (at : ℕ) (held records : List ℕ) (e : Passed) : Type 0 where
+  pub record SameGoing (tree : List ℕ) (at : ℕ) (held : List Part) (records : List ℕ) (e : Passed) : Type 0 where
     pub number-is : e .stop .number ≡ DONE
     pub intact : e .stop .intact ≡ true
     pub place-is : e .stop .at ≡ at
@@ -45,7 +46,7 @@ module _ (p : Plan) (slots : ℕ) where
     pub stored : e .tree ≡ sets tree 0 records
 
   -- an event was refused: where the slots are intact they have the parts held before it
-  pub record SameOver (number place : ℕ) (before : List ℕ) (e : Passed) : Type 0 where
+  pub record SameOver (number place : ℕ) (before : List Part) (e : Passed) : Type 0 where
     pub number-is : e .stop .number ≡ number
     pub low : DEEP ≤ number
     pub high : number ≤ RUNAWAY
@@ -54,8 +55,8 @@ module _ (p : Plan) (slots : ℕ) where
 
   -- where the events come to, in both machines
   pub data Went (tree : List ℕ) : Progress → Passed → Type 0 where
-    went-on : {at : ℕ} {held records : List ℕ} {e : Passed} → SameGoing tree at held records e → Went tree (going at held records) e
-    went-over : {number place : ℕ} {before : List ℕ} {e : Passed} → SameOver number place before e
+    went-on : {at : ℕ} {held : List Part} {records : List ℕ} {e : Passed} → SameGoing tree at held records e → Went tree (going at held records) e
+    went-over : {number place : ℕ} {before : List Part} {e : Passed} → SameOver number place before e
         → Went tree (over (stopped number place before)) e
 
   module _ (tree₀ : List ℕ) (at count : ℕ) (held records run : List ℕ) (go : Rest) where
@@ -76,7 +77,7 @@ module _ (p : Plan) (slots : ℕ) where
         }))
 
     -- an event and then the rest of the run
-    goes-on : {tree : List ℕ} → tree ≡ sets tree₀ 0 records → {taking : Step} (s : After) → Numbered taking
+    goes-on : {tree : List ℕ} → tree ≡ sets tree₀ 0 records → {taking : StepOf Part} (s : After) → Numbered taking
         → Stepped (p .count) slots tree (length records) taking s → (s .spot .intact ≡ true → s .held ≡ held)
         → ((c : ℕ) (h more t : List ℕ) → SlotsHold (p .count) slots h c → t ≡ sets tree₀ 0 more
         → Went tree₀ (steps p (withSlots slots) (going (suc at) (stack h c) more) run) (go c (length more) h t))
@@ -113,7 +114,7 @@ module _ (p : Plan) (slots : ℕ) where
             → Went tree₀ (steps p (withSlots slots) (going (suc at) (stack h c) more) run) (passOf p (suc at) run c (length more) h t))
             → Went tree₀
             (steps p (withSlots slots)
-            (cond known (advanced (event p (withSlots slots) k (stack held count)) at (stack held count) records)
+            (cond known (advanced (stagedEvent p (withSlots slots) k (stack held count)) at (stack held count) records)
             (over (stopped UNKNOWN at (stack held count)))) run)
             (onOf (cond known (takeOf p k count (length records) held tree) unknown) at count (length records) go)
         by-kind true kept rest =
@@ -122,21 +123,22 @@ module _ (p : Plan) (slots : ℕ) where
         by-kind false kept rest = stops tree₀ at count held records run go unknown (omega arith) (omega arith) refl kept
 
 -- the answer at the end, where the machine stands with all parts taken off or one that is not nullable
-abbrev endOf : After → ℕ → ℕ → Outcome
-endOf s at kinds =
+abbrev endOf : After → ℕ → ℕ → ℕ → Outcome
+endOf s at label kinds =
     cond (eqb (s .spot .number) DONE) (outcome (answered DONE at (s .spot .written) 0) (s .tree))
-    (outcome (answered (s .spot .number) at 0 kinds) (s .tree))
+    (outcome (told (s .spot .number) at label kinds) (s .tree))
 
 module _ (p : Plan) where
   -- what a run comes to, in both machines: an accepted run's place is its length, its records are stored; a refusal's answer is given
-  pub data SameRun (tree : List ℕ) (written final : ℕ) : Answer → Outcome → Type 0 where
+  pub data SameRun (tree : List ℕ) (written final : ℕ) : AnswerOf Part → Outcome → Type 0 where
     as-accepted : (records : List ℕ) {e : Outcome} → e .reading ≡ answered DONE final (written + length records) 0
         → e .tree ≡ sets tree written records → SameRun tree written final (accepted records) e
-    as-stopped : {number place : ℕ} {before : List ℕ} {e : Outcome} → DONE < number → e .reading ≡ refusal number place (expected p before)
+    as-stopped : {number place : ℕ} {before : List Part} {e : Outcome} → DONE < number
+        → e .reading ≡ refusal number place (stageOf before) (expected p (nodesOf before))
         → SameRun tree written final (stopped number place before) e
 
   -- records stored before those of an accepted run
-  pub ends-logged : {tree : List ℕ} {written final : ℕ} {answer : Answer} {e : Outcome} (records : List ℕ)
+  pub ends-logged : {tree : List ℕ} {written final : ℕ} {answer : AnswerOf Part} {e : Outcome} (records : List ℕ)
       → SameRun (sets tree written records) (written + length records) final answer e → SameRun tree written final (logged records answer) e
   unfolding logged
   ends-logged {tree} {written} {final} records (as-accepted more reads stored) =
@@ -149,30 +151,30 @@ module _ (p : Plan) where
 
   module _ (slots : ℕ) where
     -- the end of a run
-    finish-same : (at count written : ℕ) (before held tree : List ℕ) → SlotsHold (p .count) slots held count
-        → SameRun tree written at (finish p at before (stack held count))
-        (endOf (finishOf p count written held tree) at (expected p before))
-    unfolding finish finishOf stack
+    finish-same : (at count written : ℕ) (before : List Part) (held tree : List ℕ) → SlotsHold (p .count) slots held count
+        → SameRun tree written at (stagedFinish p at before (stack held count))
+        (endOf (finishOf p count written held tree) at (stageOf before) (expected p (nodesOf before)))
+    unfolding stagedFinish finishOf stack
     finish-same at zero written before held tree h = as-accepted [] (ap (λ (n : ℕ). answered DONE at n 0) (sym (add-zero written))) refl
     finish-same at (suc count) written before held tree h =
         by-null (p .null n) _ (finish-same at count (suc written) before held (set tree written (emptied n)) (held-less h))
       where
         n : ℕ
-        n = getD held count 0
+        n = nodeIn (getD held count 0)
 
         refused : After
         refused = stands END true count written held tree
 
-        by-null : (null : Bool) (s : After) {more : Answer}
-            → SameRun (set tree written (emptied n)) (suc written) at more (endOf s at (expected p before))
+        by-null : (null : Bool) (s : After) {more : AnswerOf Part}
+            → SameRun (set tree written (emptied n)) (suc written) at more (endOf s at (stageOf before) (expected p (nodesOf before)))
             → SameRun tree written at (cond null (logged (emptied n ∷ []) more) (stopped END at before))
-            (endOf (cond null s refused) at (expected p before))
+            (endOf (cond null s refused) at (stageOf before) (expected p (nodesOf before)))
         by-null true s rest = ends-logged (emptied n ∷ []) (rw (add-one written) rest)
         by-null false s rest = as-stopped {number = END} (omega arith) refl
 
     -- with what was written before
     pub close-same : (at count : ℕ) (held tree₀ records tree : List ℕ) → SlotsHold (p .count) slots held count → tree ≡ sets tree₀ 0 records
-        → SameRun tree₀ 0 at (logged records (finish p at (stack held count) (stack held count)))
+        → SameRun tree₀ 0 at (logged records (stagedFinish p at (stack held count) (stack held count)))
         (closeOf p at count (length records) held tree)
     unfolding closeOf
     close-same at count held tree₀ records tree h stored =

@@ -12,7 +12,8 @@ use lib.ListN.{length, take, drop}
 use lib.Seq.{sets, sets-eq, length-sets, take-at, drop-length}
 use Rattle.words.specs.Words.{zeros}
 use Rattle.book.specs.Form.{DONE}
-use Rattle.running.specs.Running.{Plan, Answer, DEEP}
+use Rattle.running.specs.Running.{Plan, AnswerOf, DEEP}
+use Rattle.running.specs.Stages.{Part}
 use Rattle.plan.specs.Form.{planJudged}
 use Rattle.reader.specs.declared.Reading.{Reading}
 use Rattle.reader.specs.Numbers.{LONG, NO-ROOM, answered}
@@ -75,7 +76,7 @@ front tree records fits =
     ap (take (length records)) (sets-eq records tree 0 within) ∙ take-at records (drop (0 + length records) tree) (length records) refl
 
 module _ (p : Plan) where
-  pub settled-same : {tree : List ℕ} {size : ℕ} {answer : Answer} {e : Outcome} → length (e .tree) ≡ length tree
+  pub settled-same : {tree : List ℕ} {size : ℕ} {answer : AnswerOf Part} {e : Outcome} → length (e .tree) ≡ length tree
       → SameRun p tree 0 size answer e
       → settledOf (e .reading) (e .tree) ≡ outcomeOf p size (length tree) answer
   unfolding settledOf outcomeOf acceptedOf

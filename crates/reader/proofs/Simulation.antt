@@ -2,7 +2,7 @@
 use mathlib.Core.Path.{_≡_, refl, sym, _∙_}
 use mathlib.Core.Bool.{Bool, true, false, false≢true, cond}
 use mathlib.Core.List.{List, [], _∷_}
-use Prim.Native.Nat.{ℕ, zero, suc, _+_, _<_}
+use Prim.Native.Nat.{ℕ, zero, suc, _+_, _≤_, _<_}
 use native.Mathlib.Omega.{arith}
 use borrow.Author.Tests.{ltb-true}
 use lib.Dec.{ltb, eqb}
@@ -10,15 +10,16 @@ use lib.ListN.{length, getD, set}
 use lib.Seq.{sets}
 use Rattle.book.specs.Form.{DONE}
 use Rattle.running.specs.Running.{Plan, withSlots, Move, refuse, take-event, go-left, hold-right, skip-left, go-right, moveOf, emptied}
-use Rattle.running.specs.Running.{Step, taken, refused, noted, visit, takeOff, walk, event, DEEP, UNKNOWN, UNEXPECTED}
+use Rattle.running.specs.Running.{StepOf, taken, refused, noted, takeOff, DEEP, UNKNOWN, UNEXPECTED}
+use Rattle.running.specs.Stages.{Part, part, inside, stagedVisit, stagedWalk, stagedEvent}
 use Rattle.plan.specs.Form.{planFrom, Runnable}
-use Rattle.plan.proofs.Runnable.{left-node, right-node}
-use Rattle.reader.specs.Machine.{After, SlotsHold, Go, stands, stack, visitOf, offOf, walkOf, takeOf, eventOf}
+use Rattle.plan.proofs.Runnable.{few-nodes, left-node, right-node, tag-label}
+use Rattle.reader.specs.Machine.{After, SlotsHold, Go, stands, slotOf, nodeIn, labelIn, stack, visitOf, offOf, walkOf, takeOf, eventOf}
 use Rattle.reader.proofs.Slots.{stack-length, stack-held, held-more, held-less}
 
 module _ (nodes slots : ℕ) where
   -- an event taken: the parts held are those in the slots, the records are stored from where the tree was written up to
-  pub record SameTaken (tree : List ℕ) (written : ℕ) (held records : List ℕ) (s : After) : Type 0 where
+  pub record SameTaken (tree : List ℕ) (written : ℕ) (held : List Part) (records : List ℕ) (s : After) : Type 0 where
     pub number : s .spot .number ≡ DONE
     pub parts : held ≡ stack (s .held) (s .spot .count)
     pub safe : SlotsHold nodes slots (s .held) (s .spot .count)
@@ -31,71 +32,86 @@ module _ (nodes slots : ℕ) where
   same-none tree written count held h = record { number = refl; parts = refl; safe = h; length-is = omega arith; tree-is = refl }
 
   -- a record written first
-  same-noted : {tree : List ℕ} {written : ℕ} {held records : List ℕ} {s : After} (r : ℕ)
+  same-noted : {tree : List ℕ} {written : ℕ} {held : List Part} {records : List ℕ} {s : After} (r : ℕ)
       → SameTaken (set tree written r) (suc written) held records s → SameTaken tree written held (r ∷ records) s
   same-noted r t =
       record { number = t .number; parts = t .parts; safe = t .safe; length-is = omega (arith, t .length-is); tree-is = t .tree-is }
 
   -- what one event comes to, in both machines
-  pub data Stepped (tree : List ℕ) (written : ℕ) : Step → After → Type 0 where
-    as-taken : {held records : List ℕ} {s : After} → SameTaken tree written held records s → Stepped tree written (taken held records) s
+  pub data Stepped (tree : List ℕ) (written : ℕ) : StepOf Part → After → Type 0 where
+    as-taken : {held : List Part} {records : List ℕ} {s : After} → SameTaken tree written held records s → Stepped tree written (taken held records) s
     as-refused : {number : ℕ} {s : After} → s .spot .number ≡ number → Stepped tree written (refused number) s
 
-  pub stepped-noted : {tree : List ℕ} {written : ℕ} {step : Step} {s : After} (r : ℕ)
+  pub stepped-noted : {tree : List ℕ} {written : ℕ} {step : StepOf Part} {s : After} (r : ℕ)
       → Stepped (set tree written r) (suc written) step s → Stepped tree written (noted r step) s
   unfolding noted
   stepped-noted r (as-taken t) = as-taken (same-noted r t)
   stepped-noted r (as-refused e) = as-refused e
 
--- a plan whose nodes go only to nodes
+-- a plan whose nodes, not too many, go only to nodes, and whose tags are labels
 pub record Bounded (p : Plan) : Type 0 where
+  pub few : p .count ≤ 512
   pub left-below : (n : ℕ) → p .left n < p .count
   pub right-below : (n : ℕ) → p .right n < p .count
+  pub tag-small : (n : ℕ) → p .tag n < 65536
 
 -- a runnable plan is such a plan
 pub bounded : {bytes : List ℕ} {count kinds : ℕ} → Runnable bytes count kinds → Bounded (planFrom bytes count kinds)
 unfolding planFrom
-bounded runs = record { left-below = left-node runs; right-below = right-node runs }
+bounded runs =
+    record { few = few-nodes runs; left-below = left-node runs; right-below = right-node runs; tag-small = tag-label runs }
+
+-- the label inside a node is small where that around it is
+pub inside-small : {p : Plan} → Bounded p → (n outer : ℕ) → outer < 65536 → inside (p .tag n) outer < 65536
+inside-small {p} b n outer small = by-tag (eqb (p .tag n) 0)
+  where
+    by-tag : (none : Bool) → cond none outer (p .tag n) < 65536
+    by-tag true = small
+    by-tag false = b .tag-small n
 
 module _ (p : Plan) (slots : ℕ) (b : Bounded p) where
   -- two ways to go on from a node that come to the same
-  abbrev Same : (ℕ → List ℕ → Step) → Go → Type 0
+  abbrev Same : (ℕ → ℕ → List Part → StepOf Part) → Go → Type 0
   Same go goes =
-      (n count written : ℕ) (held tree : List ℕ) → SlotsHold (p .count) slots held count
-      → Stepped (p .count) slots tree written (go n (stack held count)) (goes n count written held tree)
+      (n outer count written : ℕ) (held tree : List ℕ) → outer < 65536 → SlotsHold (p .count) slots held count
+      → Stepped (p .count) slots tree written (go n outer (stack held count)) (goes n outer count written held tree)
 
-  module _ (go : ℕ → List ℕ → Step) (goes : Go) (same : Same go goes) where
-    visit-same : (m : Move) (l r count written : ℕ) (held tree : List ℕ) → r < p .count → SlotsHold (p .count) slots held count
-        → Stepped (p .count) slots tree written (visit m go (withSlots slots) l r (stack held count))
-        (visitOf m goes l r count written held tree)
-    unfolding visit visitOf
-    visit-same refuse l r count written held tree good h = as-refused refl
-    visit-same take-event l r count written held tree good h = as-taken (same-none (p .count) slots tree written count held h)
-    visit-same go-left l r count written held tree good h = same l count written held tree h
-    visit-same hold-right l r count written held tree good h = rw (stack-length held count, h .long) (by-slot (ltb count slots) refl)
+  module _ (go : ℕ → ℕ → List Part → StepOf Part) (goes : Go) (same : Same go goes) where
+    visit-same : (m : Move) (label l r count written : ℕ) (held tree : List ℕ) → label < 65536 → r < p .count
+        → SlotsHold (p .count) slots held count
+        → Stepped (p .count) slots tree written (stagedVisit m (λ n h. go n label h) (withSlots slots) label l r (stack held count))
+        (visitOf m goes label l r count written held tree)
+    unfolding stagedVisit visitOf
+    visit-same refuse label l r count written held tree fits good h = as-refused refl
+    visit-same take-event label l r count written held tree fits good h = as-taken (same-none (p .count) slots tree written count held h)
+    visit-same go-left label l r count written held tree fits good h = same l label count written held tree fits h
+    visit-same hold-right label l r count written held tree fits good h = rw (stack-length held count, h .long) (by-slot (ltb count slots) refl)
       where
         by-slot : (free : Bool) → ltb count slots ≡ free
-            → Stepped (p .count) slots tree written (cond free (go l (r ∷ stack held count)) (refused DEEP))
-            (cond free (goes l (suc count) written (set held count r) tree) (stands DEEP false count written held tree))
+            → Stepped (p .count) slots tree written (cond free (go l label (part r label ∷ stack held count)) (refused DEEP))
+            (cond free (goes l label (suc count) written (set held count (slotOf r label)) tree) (stands DEEP false count written held tree))
         by-slot true e =
             let inside : count < slots = ltb-true count slots e in
             let free : count < length held = omega (arith, h .long) in
-            rw (← stack-held held count r free) (same l (suc count) written (set held count r) tree (held-more h r good inside))
+            let small : r < 65536 = omega (arith, b .few) in
+            rw (← stack-held held count r label free small)
+            (same l label (suc count) written (set held count (slotOf r label)) tree fits (held-more h r label good small fits inside))
         by-slot false e = as-refused refl
-    visit-same skip-left l r count written held tree good h =
-        stepped-noted (p .count) slots (emptied l) (same r count (suc written) held (set tree written (emptied l)) h)
-    visit-same go-right l r count written held tree good h = same r count written held tree h
+    visit-same skip-left label l r count written held tree fits good h =
+        stepped-noted (p .count) slots (emptied l) (same r label count (suc written) held (set tree written (emptied l)) fits h)
+    visit-same go-right label l r count written held tree fits good h = same r label count written held tree fits h
 
   module _ (k : ℕ) where
-    pub walk-same : (left : ℕ) → Same (walk p (withSlots slots) k left) (walkOf p k left)
-    unfolding walk walkOf
-    walk-same zero n count written held tree h = as-refused refl
-    walk-same (suc left) n count written held tree h =
+    pub walk-same : (left : ℕ) → Same (stagedWalk p (withSlots slots) k left) (walkOf p k left)
+    unfolding stagedWalk walkOf
+    walk-same zero n outer count written held tree fits h = as-refused refl
+    walk-same (suc left) n outer count written held tree fits h =
         stepped-noted (p .count) slots n
-        (visit-same (walk p (withSlots slots) k left) (walkOf p k left) (walk-same left)
-        (moveOf (p .cell n k)) (p .left n) (p .right n) count (suc written) held (set tree written n) (b .right-below n) h)
+        (visit-same (stagedWalk p (withSlots slots) k left) (walkOf p k left) (walk-same left)
+        (moveOf (p .cell n k)) (inside (p .tag n) outer) (p .left n) (p .right n) count (suc written) held (set tree written n)
+        (inside-small b n outer fits) (b .right-below n) h)
 
-    off-same : (none null : Bool) {tree : List ℕ} {written : ℕ} {walked passed : Step} {walks passes refuses : After}
+    off-same : (none null : Bool) {tree : List ℕ} {written : ℕ} {walked passed : StepOf Part} {walks passes refuses : After}
         → Stepped (p .count) slots tree written walked walks → Stepped (p .count) slots tree written passed passes
         → Stepped (p .count) slots tree written (refused UNEXPECTED) refuses
         → Stepped (p .count) slots tree written (cond none (cond null passed (refused UNEXPECTED)) walked)
@@ -106,39 +122,42 @@ module _ (p : Plan) (slots : ℕ) (b : Bounded p) where
 
     -- an event of a known kind
     pub take-same : (count written : ℕ) (held tree : List ℕ) → SlotsHold (p .count) slots held count
-        → Stepped (p .count) slots tree written (event p (withSlots slots) k (stack held count)) (takeOf p k count written held tree)
-    unfolding event takeOf takeOff offOf stack
+        → Stepped (p .count) slots tree written (stagedEvent p (withSlots slots) k (stack held count)) (takeOf p k count written held tree)
+    unfolding stagedEvent takeOf takeOff offOf stack
     take-same zero written held tree h = as-refused refl
     take-same (suc count) written held tree h =
-        let n = getD held count 0 in
-        off-same (eqb (p .cell n k) 0) (p .null n) (walk-same (p .count) n count written held tree (held-less h))
+        let slot = getD held count 0 in
+        let n = nodeIn slot in
+        off-same (eqb (p .cell n k) 0) (p .null n)
+        (walk-same (p .count) n (labelIn slot) count written held tree (h .labels count (omega arith)) (held-less h))
         (stepped-noted (p .count) slots (emptied n) (take-same count (suc written) held (set tree written (emptied n)) (held-less h)))
         (as-refused refl)
 
 -- the slots are intact where an event is said to leave them so: it was refused before any walk
 module _ (p : Plan) (k : ℕ) where
   visit-overwrites : (m : Move) (goes : Go)
-      → ((n count written : ℕ) (held tree : List ℕ) → goes n count written held tree .spot .intact ≡ false)
-      → (l r count written : ℕ) (held tree : List ℕ) → visitOf m goes l r count written held tree .spot .intact ≡ false
+      → ((n outer count written : ℕ) (held tree : List ℕ) → goes n outer count written held tree .spot .intact ≡ false)
+      → (label l r count written : ℕ) (held tree : List ℕ) → visitOf m goes label l r count written held tree .spot .intact ≡ false
   unfolding visitOf
-  visit-overwrites refuse goes not l r count written held tree = refl
-  visit-overwrites take-event goes not l r count written held tree = refl
-  visit-overwrites go-left goes not l r count written held tree = not l count written held tree
-  visit-overwrites hold-right goes not l r count written held tree =
-      by-slot (ltb count (length held)) _ (not l (suc count) written (set held count r) tree)
+  visit-overwrites refuse goes not label l r count written held tree = refl
+  visit-overwrites take-event goes not label l r count written held tree = refl
+  visit-overwrites go-left goes not label l r count written held tree = not l label count written held tree
+  visit-overwrites hold-right goes not label l r count written held tree =
+      by-slot (ltb count (length held)) _ (not l label (suc count) written (set held count (slotOf r label)) tree)
     where
       by-slot : (free : Bool) (s : After) → s .spot .intact ≡ false
           → cond free s (stands DEEP false count written held tree) .spot .intact ≡ false
       by-slot true s is = is
       by-slot false s is = refl
-  visit-overwrites skip-left goes not l r count written held tree = not r count (suc written) held (set tree written (emptied l))
-  visit-overwrites go-right goes not l r count written held tree = not r count written held tree
+  visit-overwrites skip-left goes not label l r count written held tree = not r label count (suc written) held (set tree written (emptied l))
+  visit-overwrites go-right goes not label l r count written held tree = not r label count written held tree
 
-  walk-overwrites : (left n count written : ℕ) (held tree : List ℕ) → walkOf p k left n count written held tree .spot .intact ≡ false
+  walk-overwrites : (left n outer count written : ℕ) (held tree : List ℕ)
+      → walkOf p k left n outer count written held tree .spot .intact ≡ false
   unfolding walkOf
-  walk-overwrites zero n count written held tree = refl
-  walk-overwrites (suc left) n count written held tree =
-      visit-overwrites (moveOf (p .cell n k)) (walkOf p k left) (walk-overwrites left) (p .left n) (p .right n)
+  walk-overwrites zero n outer count written held tree = refl
+  walk-overwrites (suc left) n outer count written held tree =
+      visit-overwrites (moveOf (p .cell n k)) (walkOf p k left) (walk-overwrites left) (inside (p .tag n) outer) (p .left n) (p .right n)
       count (suc written) held (set tree written n)
 
   take-intact : (count written : ℕ) (held tree : List ℕ) → takeOf p k count written held tree .spot .intact ≡ true
@@ -146,8 +165,9 @@ module _ (p : Plan) (k : ℕ) where
   unfolding takeOf offOf
   take-intact zero written held tree = λ is. refl
   take-intact (suc count) written held tree =
-      let n = getD held count 0 in
-      by-cell (eqb (p .cell n k) 0) (p .null n) _ _ (walk-overwrites (p .count) n count written held tree)
+      let slot = getD held count 0 in
+      let n = nodeIn slot in
+      by-cell (eqb (p .cell n k) 0) (p .null n) _ _ (walk-overwrites (p .count) n (labelIn slot) count written held tree)
       (take-intact count (suc written) held (set tree written (emptied n)))
     where
       by-cell : (none null : Bool) (walked passed : After) → walked .spot .intact ≡ false

@@ -11,11 +11,16 @@ LONG = 10
 abbrev pub NO-ROOM : ℕ
 NO-ROOM = 16
 
--- an answer: number, place, records, expected kinds
+-- an answer outside any stage: number, place, records, expected kinds
 abbrev pub answered : ℕ → ℕ → ℕ → ℕ → Reading
 answered number place records expected =
-    record { number = number; place = place; records = records; expected = expected }
+    record { number = number; place = place; records = records; label = 0; expected = expected }
 
--- a refusal at a place, where these kinds were expected; they are answered where the number tells them
-abbrev pub refusal : ℕ → ℕ → ℕ → Reading
-refusal number place kinds = answered number place 0 (cond (tells number) kinds 0)
+-- a refusal at a place in a stage, by its label, where these kinds were expected
+abbrev pub told : ℕ → ℕ → ℕ → ℕ → Reading
+told number place label kinds =
+    record { number = number; place = place; records = 0; label = label; expected = kinds }
+
+-- any refusal at a place: stage and kinds are answered where the number tells them
+abbrev pub refusal : ℕ → ℕ → ℕ → ℕ → Reading
+refusal number place label kinds = told number place (cond (tells number) label 0) (cond (tells number) kinds 0)

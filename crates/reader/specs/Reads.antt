@@ -7,7 +7,8 @@ use lib.Dec.{ltb, leb, eqb}
 use lib.ListN.{length}
 use Rattle.words.specs.Words.{zeros}
 use Rattle.book.specs.Form.{DONE}
-use Rattle.running.specs.Running.{Plan, withSlots, Answer, accepted, stopped, expected, reading, DEEP}
+use Rattle.running.specs.Running.{Plan, withSlots, AnswerOf, accepted, stopped, expected, DEEP}
+use Rattle.running.specs.Stages.{Part, stagedReading, stageOf, nodesOf}
 use Rattle.plan.specs.Form.{planOf, planJudged}
 use Rattle.reader.specs.declared.Reading.{Reading}
 use Rattle.reader.specs.Numbers.{LONG, NO-ROOM, answered, refusal}
@@ -32,14 +33,15 @@ acceptedOf size room records =
     (bare room (answered NO-ROOM 0 (length records) 0))
 
 -- what running a plan over a run of a length comes to, as an answer and a tree of so much room
-unfoldable pub outcomeOf : Plan → ℕ → ℕ → Answer → Outcome
+unfoldable pub outcomeOf : Plan → ℕ → ℕ → AnswerOf Part → Outcome
 outcomeOf p size room (accepted records) = acceptedOf size room records
-outcomeOf p size room (stopped number place held) = bare room (refusal number place (expected p held))
+outcomeOf p size room (stopped number place held) =
+    bare room (refusal number place (stageOf held) (expected p (nodesOf held)))
 
 -- the run by the plan that bytes are, with so many slots
 unfoldable pub runOf : List ℕ → List ℕ → ℕ → ℕ → Outcome
 runOf plan run slots room =
-    outcomeOf (planOf plan) (length run) room (reading (planOf plan) (withSlots slots) run)
+    outcomeOf (planOf plan) (length run) room (stagedReading (planOf plan) (withSlots slots) run)
 
 -- a reading: 8 or 9 by the plan's form, 10 for more than 65,535 events, 11 for no slot, then the run
 unfoldable pub readOf : List ℕ → List ℕ → ℕ → ℕ → Outcome

@@ -3,15 +3,16 @@ use Prim.Native.Nat.{ℕ, suc}
 use mathlib.Core.Bool.{Bool, cond}
 use mathlib.Core.List.{List, [], _∷_, _++_}
 use lib.Dec.{ltb}
-use Rattle.running.specs.Running.{Plan, Step, taken, refused, event, Answer, stopped, logged, finish, UNKNOWN}
+use Rattle.running.specs.Running.{Plan, StepOf, taken, refused, AnswerOf, stopped, logged, UNKNOWN}
+use Rattle.running.specs.Stages.{Part, part, stagedEvent, stagedFinish}
 
 -- a reading under way: so many events taken, these parts held, these records written; or it is over, with a refusal
 pub data Progress : Type 0 where
-  going : ℕ → List ℕ → List ℕ → Progress
-  over : Answer → Progress
+  going : ℕ → List Part → List ℕ → Progress
+  over : AnswerOf Part → Progress
 
 -- after an event at a place, with these parts held and these records written before it
-unfoldable pub advanced : Step → ℕ → List ℕ → List ℕ → Progress
+unfoldable pub advanced : StepOf Part → ℕ → List Part → List ℕ → Progress
 advanced (taken held records) at before written = going (suc at) held (written ++ records)
 advanced (refused number) at before written = over (stopped number at before)
 
@@ -20,7 +21,7 @@ module _ (p : Plan) where
     -- one event more
     unfoldable pub step : Progress → ℕ → Progress
     step (going at held written) k =
-        cond (ltb k (p .kinds)) (advanced (event p free k held) at held written) (over (stopped UNKNOWN at held))
+        cond (ltb k (p .kinds)) (advanced (stagedEvent p free k held) at held written) (over (stopped UNKNOWN at held))
     step (over answer) k = over answer
 
     -- events, one after the other
@@ -29,10 +30,10 @@ module _ (p : Plan) where
     steps progress (k ∷ run) = steps (step progress k) run
 
   -- the end
-  unfoldable pub closed : Progress → Answer
-  closed (going at held written) = logged written (finish p at held held)
+  unfoldable pub closed : Progress → AnswerOf Part
+  closed (going at held written) = logged written (stagedFinish p at held held)
   closed (over answer) = answer
 
   -- before any event
   abbrev pub begun : Progress
-  begun = going 0 (p .start ∷ []) []
+  begun = going 0 (part (p .start) 0 ∷ []) []

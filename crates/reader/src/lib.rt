@@ -3,11 +3,13 @@ ghost use mathlib.Core.Path.{_≡_};
 ghost use mathlib.Core.Bool.{true};
 ghost use Prim.Native.Nat.{_≤_, _<_};
 ghost use lib.ListN.{length, set};
-ghost use Rattle.running.specs.Running.{withSlots, rowFirst, expected, reading, tells};
+ghost use Rattle.running.specs.Running.{withSlots, rowFirst, expected, tells};
+ghost use Rattle.running.specs.Stages.{inside, stagedReading, stageOf, nodesOf};
+ghost use Rattle.words.specs.Words.{zeros};
 ghost use Rattle.plan.specs.Form.{planStart, planFrom, planJudged, Runnable};
-ghost use Rattle.reader.specs.Machine.{SlotsHold, after, stoppedAt, stack};
+ghost use Rattle.reader.specs.Machine.{SlotsHold, after, stoppedAt, slotOf, stack};
 ghost use Rattle.reader.specs.Machine.{walkOf, eventOf, finishOf, closeOf, passOf};
-ghost use Rattle.reader.specs.Numbers.{answered};
+ghost use Rattle.reader.specs.Numbers.{answered, told};
 ghost use Rattle.reader.specs.Ready.{Ready};
 ghost use Rattle.reader.specs.Reads.{Reads, outcome, bare, outcomeOf, runOf, readOf};
 ghost use Rattle.reader.specs.Settled.{settledOf};
@@ -20,6 +22,7 @@ use plan::plan_count;
 use plan::plan_kinds;
 use plan::plan_start;
 use plan::right_at;
+use plan::tag_at;
 use words::clear_records;
 use words::wide;
 
@@ -59,6 +62,7 @@ pub struct Reading {
     pub number: u32,
     pub place: u32,
     pub records: u32,
+    pub label: u32,
     pub expected: u64,
 }
 
@@ -72,6 +76,35 @@ pub struct Stop {
     pub written: usize,
 }
 
+// A holding slot: a node in the low half, a label in the high half.
+fn slot_of(node: usize, label: usize) -> u32
+    requires { ⌜ (node < 65536) × (label < 65536) ⌝ }
+    ensures { λ r. ⌜ r ≡ slotOf node label ⌝ }
+{
+    (label * 65536 + node) as u32
+}
+
+// The label inside a node, by its tag and the label around it.
+fn inner(tag: usize, outer: usize) -> usize
+    ensures { λ r. ⌜ r ≡ inside tag outer ⌝ }
+{
+    if tag == 0 {
+        return outer;
+    }
+    tag
+}
+
+// The label of the part held last; 0 where none is held.
+fn stage_of(held: &[u32], count: usize) -> u32
+    requires { ⌜ count ≤ length (now held) ⌝ }
+    ensures { λ r. ⌜ r ≡ stageOf (stack (now (held .entry)) count) ⌝ }
+{
+    if count == 0 {
+        return 0;
+    }
+    held[count - 1] / 65536
+}
+
 // Writes a record, where the tree has room for it.
 fn note(tree: &mut [u16], at: usize, value: usize)
     requires { ⌜ value < 65536 ⌝ }
@@ -82,25 +115,28 @@ fn note(tree: &mut [u16], at: usize, value: usize)
     }
 }
 
-// The walk from a node: each visited node writes a record, then its cell says how to go on.
+// The walk from a node, with a label around it: each visited node writes a record, then its cell says how to go on.
 fn walk(
     plan: &[u8],
     nodes: usize,
     kinds: usize,
     kind: usize,
     from: usize,
+    outer: usize,
     count: usize,
     written: usize,
-    held: &mut [u16],
+    held: &mut [u32],
     tree: &mut [u16],
 ) -> Spot
-    requires { ⌜ (Ready (now plan) nodes kinds count written (now held)) × (kind < kinds) × (from < nodes) ⌝ }
+    requires { ⌜ (Ready (now plan) nodes kinds count written (now held)) × (kind < kinds) × (from < nodes)
+        × (outer < 65536) ⌝ }
     ensures { λ r. ⌜ after r (now (held .exit)) (now (tree .exit))
-        ≡ walkOf (planFrom (now (plan .entry)) nodes kinds) kind nodes from count written
+        ≡ walkOf (planFrom (now (plan .entry)) nodes kinds) kind nodes from outer count written
         (now (held .entry)) (now (tree .entry)) ⌝ }
 {
     let mut visits = 0;
     let mut node = from;
+    let mut label = outer;
     let mut parts = count;
     let mut records = written;
     while visits < nodes {
@@ -117,6 +153,7 @@ fn walk(
                 };
             }
             2 => {
+                label = inner(tag_at(plan, node), label);
                 node = left_at(plan, node);
             }
             3 => {
@@ -128,7 +165,7 @@ fn walk(
                         written: records,
                     };
                 }
-                held[parts] = right_at(plan, node) as u16;
+                held[parts] = slot_of(right_at(plan, node), label);
                 parts += 1;
                 node = left_at(plan, node);
             }
@@ -166,7 +203,7 @@ pub fn take_event(
     kind: usize,
     count: usize,
     written: usize,
-    held: &mut [u16],
+    held: &mut [u32],
     tree: &mut [u16],
 ) -> Spot
     requires { ⌜ Ready (now plan) nodes kinds count written (now held) ⌝ }
@@ -186,9 +223,22 @@ pub fn take_event(
     let mut records = written;
     while 0 < parts {
         parts -= 1;
-        let node = held[parts] as usize;
+        let slot = held[parts] as usize;
+        let node = slot % 65536;
         if cell_at(plan, nodes, kinds, node, kind) != 0 {
-            return walk(plan, nodes, kinds, kind, node, parts, records, held, tree);
+            let label = slot / 65536;
+            return walk(
+                plan,
+                nodes,
+                kinds,
+                kind,
+                node,
+                label,
+                parts,
+                records,
+                held,
+                tree,
+            );
         }
         if cell_at(plan, nodes, kinds, node, kinds) != 1 {
             return Spot {
@@ -216,7 +266,7 @@ fn finish(
     kinds: usize,
     count: usize,
     written: usize,
-    held: &[u16],
+    held: &[u32],
     tree: &mut [u16],
 ) -> Spot
     requires { ⌜ Ready (now plan) nodes kinds count written (now held) ⌝ }
@@ -227,7 +277,7 @@ fn finish(
     let mut records = written;
     while 0 < parts {
         parts -= 1;
-        let node = held[parts] as usize;
+        let node = held[parts] as usize % 65536;
         if cell_at(plan, nodes, kinds, node, kinds) != 1 {
             return Spot {
                 number: END,
@@ -272,15 +322,16 @@ fn row_first(plan: &[u8], nodes: usize, kinds: usize, node: usize) -> u64
 
 // The kinds that may come next where so many parts are held: FIRST of the part held last, and while parts are nullable,
 // of the next.
-fn expected_by(plan: &[u8], nodes: usize, kinds: usize, count: usize, held: &[u16]) -> u64
+fn expected_by(plan: &[u8], nodes: usize, kinds: usize, count: usize, held: &[u32]) -> u64
     requires { ⌜ (Runnable (now plan) nodes kinds) × (SlotsHold nodes (length (now held)) (now held) count) ⌝ }
-    ensures { λ r. ⌜ r ≡ expected (planFrom (now (plan .entry)) nodes kinds) (stack (now (held .entry)) count) ⌝ }
+    ensures { λ r. ⌜ r
+        ≡ expected (planFrom (now (plan .entry)) nodes kinds) (nodesOf (stack (now (held .entry)) count)) ⌝ }
 {
     let mut set = 0;
     let mut parts = count;
     while 0 < parts {
         parts -= 1;
-        let part = held[parts] as usize;
+        let part = held[parts] as usize % 65536;
         set = set | row_first(plan, nodes, kinds, part);
         if cell_at(plan, nodes, kinds, part, kinds) != 1 {
             return set;
@@ -289,7 +340,7 @@ fn expected_by(plan: &[u8], nodes: usize, kinds: usize, count: usize, held: &[u1
     set
 }
 
-// A refusal at a place that tells what was expected, by the parts held before anything was taken off.
+// A refusal at a place that tells the stage and what was expected, by the parts held before anything was taken off.
 pub fn refuse(
     plan: &[u8],
     nodes: usize,
@@ -297,17 +348,18 @@ pub fn refuse(
     number: u32,
     at: usize,
     count: usize,
-    held: &[u16],
+    held: &[u32],
 ) -> Reading
     requires { ⌜ (Runnable (now plan) nodes kinds) × (SlotsHold nodes (length (now held)) (now held) count)
         × (at < 65536) ⌝ }
-    ensures { λ r. ⌜ r ≡ answered number at 0
-        (expected (planFrom (now (plan .entry)) nodes kinds) (stack (now (held .entry)) count)) ⌝ }
+    ensures { λ r. ⌜ r ≡ told number at (stageOf (stack (now (held .entry)) count))
+        (expected (planFrom (now (plan .entry)) nodes kinds) (nodesOf (stack (now (held .entry)) count))) ⌝ }
 {
     Reading {
         number: number,
         place: at as u32,
         records: 0,
+        label: stage_of(held, count),
         expected: expected_by(plan, nodes, kinds, count, held),
     }
 }
@@ -320,7 +372,7 @@ fn close(
     at: usize,
     count: usize,
     written: usize,
-    held: &[u16],
+    held: &[u32],
     tree: &mut [u16],
 ) -> Reading
     requires { ⌜ (Ready (now plan) nodes kinds count written (now held)) × (at < 65536) ⌝ }
@@ -336,6 +388,7 @@ fn close(
         number: DONE,
         place: at as u32,
         records: spot.written as u32,
+        label: 0,
         expected: 0,
     }
 }
@@ -346,16 +399,16 @@ fn pass_events(
     nodes: usize,
     kinds: usize,
     run: &[u8],
-    held: &mut [u16],
+    held: &mut [u32],
     tree: &mut [u16],
 ) -> Stop
     requires { ⌜ (Runnable (now plan) nodes kinds) × (length (now run) ≤ 65535) × (0 < length (now held)) ⌝ }
     ensures { λ r. ⌜ (stoppedAt r (now (held .exit)) (now (tree .exit))
         ≡ passOf (planFrom (now (plan .entry)) nodes kinds) 0 (now (run .entry)) 1 0
-        (set (now (held .entry)) 0 (planStart (now (plan .entry)))) (now (tree .entry)))
+        (set (now (held .entry)) 0 (slotOf (planStart (now (plan .entry))) 0)) (now (tree .entry)))
         × (r .intact ≡ true → Ready (now (plan .entry)) nodes kinds (r .count) (r .written) (now (held .exit))) ⌝ }
 {
-    held[0] = plan_start(plan) as u16;
+    held[0] = slot_of(plan_start(plan), 0);
     let mut at = 0;
     let mut count = 1;
     let mut written = 0;
@@ -399,13 +452,13 @@ fn events(
     nodes: usize,
     kinds: usize,
     run: &[u8],
-    held: &mut [u16],
+    held: &mut [u32],
     tree: &mut [u16],
 ) -> Reading
     requires { ⌜ (Runnable (now plan) nodes kinds) × (length (now run) ≤ 65535) × (0 < length (now held)) ⌝ }
     ensures { λ r. ⌜ settledOf r (now (tree .exit))
         ≡ outcomeOf (planFrom (now (plan .entry)) nodes kinds) (length (now (run .entry))) (length (now (tree .entry)))
-        (reading (planFrom (now (plan .entry)) nodes kinds) (withSlots (length (now (held .entry))))
+        (stagedReading (planFrom (now (plan .entry)) nodes kinds) (withSlots (length (now (held .entry))))
         (now (run .entry))) ⌝ }
 {
     let stop = pass_events(plan, nodes, kinds, run, held, tree);
@@ -426,6 +479,7 @@ fn events(
             number: stop.number,
             place: stop.at as u32,
             records: 0,
+            label: 0,
             expected: 0,
         };
     }
@@ -445,6 +499,7 @@ fn refuse_all(number: u32, place: u32, tree: &mut [u16]) -> Reading
         number: number,
         place: place,
         records: 0,
+        label: 0,
         expected: 0,
     }
 }
@@ -464,6 +519,7 @@ fn settle(answer: Reading, tree: &mut [u16]) -> Reading
             number: NO_ROOM,
             place: 0,
             records: answer.records,
+            label: 0,
             expected: 0,
         };
     }
@@ -472,7 +528,7 @@ fn settle(answer: Reading, tree: &mut [u16]) -> Reading
 }
 
 // The run by a plan that is judged done, with a slot at least.
-fn run_plan(plan: &[u8], run: &[u8], held: &mut [u16], tree: &mut [u16]) -> Reading
+fn run_plan(plan: &[u8], run: &[u8], held: &mut [u32], tree: &mut [u16]) -> Reading
     requires { ⌜ (planJudged (now plan) .number ≡ 0) × (length (now run) ≤ 65535) × (0 < length (now held)) ⌝ }
     ensures { λ r. ⌜ outcome r (now (tree .exit))
         ≡ runOf (now (plan .entry)) (now (run .entry)) (length (now (held .entry))) (length (now (tree .entry))) ⌝ }
@@ -484,7 +540,7 @@ fn run_plan(plan: &[u8], run: &[u8], held: &mut [u16], tree: &mut [u16]) -> Read
 }
 
 // The answer, by each test in turn, with the records in the tree.
-fn answer(plan: &[u8], run: &[u8], held: &mut [u16], tree: &mut [u16]) -> Reading
+fn answer(plan: &[u8], run: &[u8], held: &mut [u32], tree: &mut [u16]) -> Reading
     ensures { λ r. ⌜ outcome r (now (tree .exit))
         ≡ readOf (now (plan .entry)) (now (run .entry)) (length (now (held .entry))) (length (now (tree .entry))) ⌝ }
 {
@@ -501,12 +557,23 @@ fn answer(plan: &[u8], run: &[u8], held: &mut [u16], tree: &mut [u16]) -> Readin
     run_plan(plan, run, held, tree)
 }
 
+// Sets all slots to zero.
+fn clear_slots(held: &mut [u32])
+    ensures { λ _. ⌜ now (held .exit) ≡ zeros (length (now (held .entry))) ⌝ }
+{
+    let mut slot = 0;
+    while slot < held.len() {
+        held[slot] = 0;
+        slot += 1;
+    }
+}
+
 // Reads a run by a plan: the answer, with the records in the tree; the slots are zero after every call.
-pub fn read(plan: &[u8], run: &[u8], held: &mut [u16], tree: &mut [u16]) -> Reading
+pub fn read(plan: &[u8], run: &[u8], held: &mut [u32], tree: &mut [u16]) -> Reading
     ensures { λ r. ⌜ Reads (now (plan .entry)) (now (run .entry)) (now (held .entry)) (now (tree .entry))
         r (now (held .exit)) (now (tree .exit)) ⌝ }
 {
     let reading = answer(plan, run, held, tree);
-    clear_records(held);
+    clear_slots(held);
     reading
 }

@@ -1,17 +1,19 @@
 -- Slots enough: with as many as the node count less two for each event, and two, a reading is never DEEP. Of any plan, forged or not.
 use Prim.Native.Nat.{ℕ, zero, suc, _+_, _*_, _-_, _≤_, _<_}
 use native.Mathlib.Omega.{arith}
-use mathlib.Core.Path.{_≡_, refl}
+use mathlib.Core.Path.{_≡_, refl, sym, ap, _∙_}
 use mathlib.Core.Bool.{Bool, true, false, cond}
 use mathlib.Core.List.{List, [], _∷_}
-use mathlib.Core.Logic.{_⊎_, ⊎-elim, _≢_}
+use mathlib.Core.Logic.{_⊎_, inl, inr, ⊎-elim, _≢_}
 use lib.Dec.{ltb, eqb}
 use lib.ListN.{length}
 use borrow.Author.Tests.{lt-ltb, ltb-true}
 use Rattle.running.specs.Running.{Plan, Move, refuse, take-event, go-left, hold-right, skip-left, go-right, moveOf, withSlots, unlimited}
 use Rattle.running.specs.Running.{DEEP, UNKNOWN, UNEXPECTED, END, RUNAWAY, Step, taken, refused, emptied, noted, visit, takeOff, walk, event}
 use Rattle.running.specs.Running.{Answer, accepted, stopped, logged, onward, finish, reads, reading}
+use Rattle.running.specs.Stages.{Part, stagedReading, nodesOf, bareAnswer}
 use Rattle.running.proofs.Limits.{free-answers}
+use Rattle.running.proofs.Stages.{reading-bare}
 
 -- a step that is not DEEP, and holds fewer parts than a bound if the event is taken
 data Shallow (bound : ℕ) : Step → Type 0 where
@@ -119,15 +121,21 @@ module _ (p : Plan) (xs : List ℕ) where
   -- with some slots the answer is DEEP or the free machine's
   pub slots-answer : (slots : ℕ)
       → ((i : ℕ) × (held : List ℕ) × (reading p (withSlots slots) xs ≡ stopped DEEP i held)) ⊎ (reading p (withSlots slots) xs ≡ reading p unlimited xs)
-  slots-answer slots = free-answers p (withSlots slots) unlimited (λ n h. refl) xs
+  unfolding bareAnswer
+  slots-answer slots =
+      let bare = reading-bare p (withSlots slots) xs in
+      ⊎-elim (λ d. inl (d .0, nodesOf (d .1), sym bare ∙ ap bareAnswer (d .2)))
+      (λ e. inr (sym bare ∙ ap bareAnswer e ∙ reading-bare p unlimited xs))
+      (free-answers p (withSlots slots) unlimited (λ n h. refl) xs)
 
   -- with enough it is the free machine's
   pub slots-free : (slots : ℕ) → (p .count - 2) * length xs + 2 ≤ slots → reading p (withSlots slots) xs ≡ reading p unlimited xs
   slots-free slots h = ⊎-elim (λ d. absurd (slots-enough p slots xs (d .0) (d .1) h (d .2))) (λ e. e) (slots-answer slots)
 
-  -- an answer other than DEEP is the same with more
-  pub more-slots : (slots more : ℕ) → slots ≤ more → ((i : ℕ) (held : List ℕ) → reading p (withSlots slots) xs ≡ stopped DEEP i held → ⊥)
-      → reading p (withSlots slots) xs ≡ reading p (withSlots more) xs
+  -- an answer other than DEEP is the same with more, the labels of the parts held too
+  pub more-slots : (slots more : ℕ) → slots ≤ more
+      → ((i : ℕ) (held : List Part) → stagedReading p (withSlots slots) xs ≡ stopped DEEP i held → ⊥)
+      → stagedReading p (withSlots slots) xs ≡ stagedReading p (withSlots more) xs
   more-slots slots more h f =
       ⊎-elim (λ d. absurd (f (d .0) (d .1) (d .2))) (λ e. e)
       (free-answers p (withSlots slots) (withSlots more) (λ n t. let g = ltb-true n slots t in lt-ltb n more (omega arith)) xs)

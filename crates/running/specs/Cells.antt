@@ -5,7 +5,7 @@ use mathlib.Core.Bool.{Bool, true, not, _&&_, cond}
 use mathlib.Core.Logic.{_↔_}
 use Rattle.book.specs.declared.Node.{Node}
 use Rattle.book.specs.declared.Node.the-variants.{Fail, Empty, Token, Either, Then, Tagged, Ref}
-use Rattle.book.specs.Book.{Book, leftOf, rightOf}
+use Rattle.book.specs.Book.{Book, leftOf, rightOf, tagOf}
 use Rattle.grammar.specs.Rules.{First, Nullable}
 use Rattle.running.specs.Running.{Plan}
 
@@ -39,6 +39,7 @@ planFor book marks =
       start = book .start;
       left = λ n. leftOf (book .node n);
       right = λ n. rightOf (book .node n);
+      tag = λ n. tagOf (book .node n);
       cell = λ n k. cellOf marks k n (book .node n);
       null = marks .null;
     }

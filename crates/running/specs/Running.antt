@@ -25,14 +25,15 @@ END = 14
 abbrev pub RUNAWAY : ℕ
 RUNAWAY = 15
 
--- what a reading goes by: how many nodes and kinds there are, the start, each node's left and right, the cell of a
--- node for a kind, and whether a node is nullable by its row
+-- what a reading goes by: how many nodes and kinds there are, the start, each node's left and right and its tag, 0
+-- where it is not tagged, the cell of a node for a kind, and whether a node is nullable by its row
 pub record Plan : Type 0 where
   pub count : ℕ
   pub kinds : ℕ
   pub start : ℕ
   pub left : ℕ → ℕ
   pub right : ℕ → ℕ
+  pub tag : ℕ → ℕ
   pub cell : ℕ → ℕ → ℕ
   pub null : ℕ → Bool
 
@@ -61,14 +62,18 @@ moveOf cell = getD (refuse ∷ take-event ∷ go-left ∷ hold-right ∷ skip-le
 abbrev pub emptied : ℕ → ℕ
 emptied n = n + 32768
 
--- what one event comes to: taken, with the parts then held and the records written; or refused, with the refusal's
--- number
-pub data Step : Type 0 where
-  taken : List ℕ → List ℕ → Step
-  refused : ℕ → Step
+-- what one event comes to, with parts of some sort held: taken, with the parts then held and the records written; or
+-- refused, with the refusal's number
+pub data StepOf (P : Type 0) : Type 0 where
+  taken : List P → List ℕ → StepOf P
+  refused : ℕ → StepOf P
+
+-- the parts held are nodes
+abbrev pub Step : Type 0
+Step = StepOf ℕ
 
 -- one record more, before those that follow
-unfoldable pub noted : ℕ → Step → Step
+unfoldable pub noted : {P : Type 0} → ℕ → StepOf P → StepOf P
 noted r (taken held records) = taken held (r ∷ records)
 noted r (refused number) = refused number
 
@@ -84,21 +89,24 @@ visit go-right go free l r held = go r held
 
 -- a part taken off, by its cell and whether it is nullable: its walk where the cell is not 0, else it is passed or
 -- the event refused
-unfoldable pub takeOff : ℕ → Bool → Step → Step → Step
+unfoldable pub takeOff : {P : Type 0} → ℕ → Bool → StepOf P → StepOf P → StepOf P
 takeOff cell null walked passed = cond (eqb cell 0) (cond null passed (refused UNEXPECTED)) walked
 
 -- what a whole reading comes to: accepted, with its records; or stopped, with number, place and the parts held before
-pub data Answer : Type 0 where
-  accepted : List ℕ → Answer
-  stopped : ℕ → ℕ → List ℕ → Answer
+pub data AnswerOf (P : Type 0) : Type 0 where
+  accepted : List ℕ → AnswerOf P
+  stopped : ℕ → ℕ → List P → AnswerOf P
+
+abbrev pub Answer : Type 0
+Answer = AnswerOf ℕ
 
 -- records written before those of an accepted run
-unfoldable pub logged : List ℕ → Answer → Answer
+unfoldable pub logged : {P : Type 0} → List ℕ → AnswerOf P → AnswerOf P
 logged records (accepted more) = accepted (records ++ more)
 logged records (stopped number place held) = stopped number place held
 
 -- after an event at a place, with these parts held before it: on with the rest of the run, or the refusal
-unfoldable pub onward : Step → (List ℕ → Answer) → ℕ → List ℕ → Answer
+unfoldable pub onward : {P : Type 0} → StepOf P → (List P → AnswerOf P) → ℕ → List P → AnswerOf P
 onward (taken held records) rest at before = logged records (rest held)
 onward (refused number) rest at before = stopped number at before
 

@@ -19,13 +19,13 @@ use Rattle.writer.specs.Bytes.{planBytes, planContents, bookBody}
 use Rattle.words.specs.Lists.{valuesFrom, listsFrom}
 use Rattle.running.specs.Cells.{cellOf}
 use Rattle.plan.specs.Form.{planCount, planKinds, planStart, cellAt, planFrom, planGood, cellGood, cellsJudged, planJudged}
-use Rattle.running.specs.Running.{moveOf, noted, visit, takeOff, walk, event, logged, onward, finish, reads, reading, rowFirst, expected}
+use Rattle.running.specs.Running.{moveOf, noted, takeOff, logged, onward, rowFirst, expected}
+use Rattle.running.specs.Stages.{stagedVisit, stagedWalk, stagedEvent, stagedFinish, stagedReads, stagedReading, stageOf}
 use Rattle.compiler.specs.declared.Compiled.{Compiled}
 use Rattle.compiler.specs.Compiles.{answer, Compiles}
 use Rattle.verdict.proofs.Some.{decide, other-way, search, flag, shared, tells, conflict?, unreached?}
 use Rattle.verdict.proofs.Some.{judged-fruitful, judged-start, judged-good, judged-form, judges-some}
 use Rattle.compiler.proofs.Some.{marks, by-verdict, compiles-some}
-use Rattle.reader.specs.Numbers.{answered}
 use Rattle.reader.specs.Reads.{Outcome, outcome, acceptedOf, outcomeOf, runOf, readOf}
 use Rattle.worked.specs.Worked.{book, Case, compiled, read, Each, no-more, and, Holds, table}
 
@@ -34,7 +34,7 @@ abbrev compiledNumbers : Compiled → List ℕ → List ℕ
 compiledNumbers a plan = a .number ∷ a .place ∷ a .size ∷ a .both ∷ a .clash ∷ plan
 
 abbrev readNumbers : Outcome → List ℕ
-readNumbers o = o .reading .number ∷ o .reading .place ∷ o .reading .records ∷ o .reading .expected ∷ o .tree
+readNumbers o = o .reading .number ∷ o .reading .place ∷ o .reading .records ∷ o .reading .label ∷ o .reading .expected ∷ o .tree
 
 -- the numbers that a case comes to, and those that it says
 unfoldable computed : Case → List ℕ
@@ -52,7 +52,9 @@ holds (compiled bytes room a buffer) e =
     subst (λ (l : List ℕ). Compiles bytes room (answer (getD l 0 0) (getD l 1 0) (getD l 2 0) (getD l 3 0) (getD l 4 0)) (drop 5 l)) e
     (compiles-some bytes room .2)
 holds (read bytes run slots room a buffer) e =
-    ap (λ (l : List ℕ). outcome (answered (getD l 0 0) (getD l 1 0) (getD l 2 0) (getD l 3 0)) (drop 4 l)) e
+    ap
+    (λ (l : List ℕ).
+    outcome (record { number = getD l 0 0; place = getD l 1 0; records = getD l 2 0; label = getD l 3 0; expected = getD l 4 0 }) (drop 5 l)) e
 
 each : (cases : List Case) → map computed cases ≡ map said cases → Each Holds cases
 each [] e = no-more
@@ -69,7 +71,8 @@ unfolding table book wordBytes flatMap computed said by-verdict compiles-some
     judged-fruitful judged-start judged-good judged-form judges-some marks
     planBytes planContents bookBody bodyWords valuesFrom listsFrom Bytes.rowOf Bytes.rowsOf cellOf
     planCount planKinds planStart cellAt planFrom planGood cellGood cellsJudged planJudged
-    moveOf noted visit takeOff walk event logged onward finish reads reading rowFirst expected acceptedOf outcomeOf runOf readOf
+    moveOf noted takeOff stagedVisit stagedWalk stagedEvent logged onward stagedFinish stagedReads stagedReading stageOf
+    rowFirst expected acceptedOf outcomeOf runOf readOf
 all-right = refl
 
 -- every case of the table holds

@@ -10,7 +10,7 @@ use Rattle.book.specs.declared.Node.the-variants.{Fail, Empty, Token, Either, T
 use Rattle.compiler.specs.declared.Compiled.{Compiled}
 use Rattle.compiler.specs.Compiles.{answer, Compiles}
 use Rattle.reader.specs.declared.Reading.{Reading}
-use Rattle.reader.specs.Numbers.{answered}
+use Rattle.reader.specs.Numbers.{answered, told}
 use Rattle.reader.specs.Reads.{outcome, readOf}
 
 -- the bytes of the book with these kinds, start and nodes
@@ -53,8 +53,8 @@ plan = 3 ∷ 0 ∷ 1 ∷ 0 ∷ 20 ∷ 0 ∷ 4 ∷ 0 ∷ 2 ∷ 0 ∷ 24 ∷ 0 ∷
     ∷ 4 ∷ 0 ∷ 0 ∷ 0 ∷ 7 ∷ 0 ∷ 1 ∷ 0 ∷ 0 ∷ 0 ∷ 0 ∷ 1 ∷ 0 ∷ 0 ∷ 0 ∷ 0 ∷ 1 ∷ 0 ∷ 0 ∷ 0 ∷ 0 ∷ 1
     ∷ 0 ∷ 2 ∷ 0 ∷ 1 ∷ 0 ∷ 3 ∷ 0 ∷ 0 ∷ 0 ∷ 2 ∷ 0 ∷ 1 ∷ 0 ∷ 3 ∷ 4 ∷ 0 ∷ 3 ∷ 0 ∷ 0 ∷ 0 ∷ []
 
--- the cases, with the plans of a lone empty, of a harmless left recursion, and of two nodes over 64 kinds, and a book
--- with two names
+-- the cases, with the plans of a lone empty, of a harmless left recursion, of two nodes over 64 kinds, and of stages
+-- (token 0; token 1; tagged 1 9; then 0 2; tagged 3 7; then 4 0), and a book with two names
 unfoldable pub table : List Case
 table =
     let lone : List ℕ = 3 ∷ 0 ∷ 1 ∷ 0 ∷ 20 ∷ 0 ∷ 4 ∷ 0 ∷ 2 ∷ 0 ∷ 24 ∷ 0 ∷ 6 ∷ 0 ∷ 3 ∷ 0 ∷ 30 ∷ 0 ∷ 2 ∷ 0
@@ -64,6 +64,10 @@ table =
     ∷ 2 ∷ 0 ∷ 0 ∷ 0 ∷ 0 ∷ 0 ∷ 3 ∷ 0 ∷ 2 ∷ 0 ∷ 3 ∷ 0 ∷ 2 ∷ 0 ∷ 0 ∷ 0 ∷ 0 ∷ 0 ∷ 1 ∷ 0 ∷ 5 ∷ 0 ∷ [] in
     let wide : List ℕ = 3 ∷ 0 ∷ 1 ∷ 0 ∷ 20 ∷ 0 ∷ 4 ∷ 0 ∷ 2 ∷ 0 ∷ 24 ∷ 0 ∷ 12 ∷ 0 ∷ 3 ∷ 0 ∷ 36 ∷ 0 ∷ 130 ∷ 0 ∷ 64 ∷ 0
     ∷ 1 ∷ 0 ∷ 2 ∷ 0 ∷ 63 ∷ 0 ∷ 0 ∷ 0 ∷ 5 ∷ 0 ∷ 0 ∷ 0 ∷ 255 ∷ 255 ∷ zeros 63 ++ 1 ∷ 0 ∷ zeros 63 ++ 2 ∷ 0 ∷ [] in
+    let stages : List ℕ = 3 ∷ 0 ∷ 1 ∷ 0 ∷ 20 ∷ 0 ∷ 4 ∷ 0 ∷ 2 ∷ 0 ∷ 24 ∷ 0 ∷ 36 ∷ 0 ∷ 3 ∷ 0 ∷ 60 ∷ 0 ∷ 18 ∷ 0
+    ∷ 2 ∷ 0 ∷ 5 ∷ 0 ∷ 2 ∷ 0 ∷ 0 ∷ 0 ∷ 0 ∷ 0 ∷ 2 ∷ 0 ∷ 1 ∷ 0 ∷ 0 ∷ 0 ∷ 5 ∷ 0 ∷ 1 ∷ 0 ∷ 9 ∷ 0
+    ∷ 4 ∷ 0 ∷ 0 ∷ 0 ∷ 2 ∷ 0 ∷ 5 ∷ 0 ∷ 3 ∷ 0 ∷ 7 ∷ 0 ∷ 4 ∷ 0 ∷ 4 ∷ 0 ∷ 0 ∷ 0
+    ∷ 1 ∷ 0 ∷ 0 ∷ 0 ∷ 1 ∷ 0 ∷ 0 ∷ 2 ∷ 0 ∷ 3 ∷ 0 ∷ 0 ∷ 2 ∷ 0 ∷ 0 ∷ 3 ∷ 0 ∷ 0 ∷ [] in
     let pair : List ℕ = 3 ∷ 0 ∷ 1 ∷ 0 ∷ 20 ∷ 0 ∷ 4 ∷ 0 ∷ 2 ∷ 0 ∷ 24 ∷ 0 ∷ 6 ∷ 0 ∷ 3 ∷ 0 ∷ 30 ∷ 0 ∷ 4 ∷ 0
     ∷ 2 ∷ 0 ∷ 0 ∷ 0 ∷ 2 ∷ 0 ∷ 0 ∷ 0 ∷ 0 ∷ 0 ∷ 1 ∷ 97 ∷ 1 ∷ 98 ∷ [] in
     compiled rinse 114 (answer 0 0 114 0 0) plan ∷ compiled rinse 113 (answer 7 0 114 0 0) (zeros 113)
@@ -95,6 +99,9 @@ table =
     ∷ compiled (book 64 1 (Token 63 ∷ Tagged 0 65535 ∷ [])) 166 (answer 0 0 166 0 0) wide
     ∷ read wide (63 ∷ []) 1 2 (answered 0 1 2 0) (1 ∷ 0 ∷ [])
     ∷ read wide (64 ∷ []) 1 0 (answered 12 0 0 9223372036854775808) []
+    ∷ read stages [] 2 0 (answered 14 0 0 1) [] ∷ read stages (0 ∷ []) 2 0 (told 14 1 7 2) []
+    ∷ read stages (0 ∷ 1 ∷ []) 2 0 (answered 14 2 0 1) [] ∷ read stages (0 ∷ 0 ∷ []) 2 0 (told 13 1 7 2) []
+    ∷ read stages (0 ∷ 9 ∷ []) 2 0 (told 12 1 7 2) []
     ∷ compiled (zeros 18) 0 (answer 1 0 0 0 0) [] ∷ compiled (zeros 24) 0 (answer 2 0 0 0 0) []
     ∷ compiled (zeros 3090) 0 (answer 2 0 0 0 0) [] ∷ compiled (zeros 3096) 0 (answer 1 0 0 0 0) []
     ∷ compiled (book 65 0 (Fail ∷ [])) 0 (answer 3 0 0 0 0) [] ∷ compiled (book 64 1 (Fail ∷ [])) 0 (answer 3 0 0 0 0) []

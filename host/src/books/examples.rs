@@ -77,6 +77,21 @@ pub fn reached_upward() -> Book {
     }
 }
 
+/// Two events in stage 7, the second in stage 9 within it, and a third outside.
+pub fn stages() -> Book {
+    Book::ending(
+        2,
+        &[
+            (TOKEN, 0, 0),
+            (TOKEN, 1, 0),
+            (TAGGED, 1, 9),
+            (THEN, 0, 2),
+            (TAGGED, 3, 7),
+            (THEN, 4, 0),
+        ],
+    )
+}
+
 /// A single node.
 pub fn lone(form: u16) -> Book {
     Book::ending(1, &[(form, 0, 0)])

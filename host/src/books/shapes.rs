@@ -37,6 +37,38 @@ pub fn likely_book(random: &mut Random) -> Book {
     }
 }
 
+/// The book with a tag above about half of its nodes, where that is not too many.
+pub fn with_stages(random: &mut Random, book: &Book) -> Book {
+    if book.nodes.len() > MOST_NODES / 2 {
+        return book.clone();
+    }
+    let tagged: Vec<bool> = book.nodes.iter().map(|_| random.once_in(2)).collect();
+    let mut count = 0;
+    let places = tagged.iter().map(|&tag| {
+        count += 1 + u16::from(tag);
+        count - 1
+    });
+    let places: Vec<u16> = places.collect();
+    let place = |child: u16| places[usize::from(child)];
+    let mut nodes = Vec::new();
+    for (&Node { form, left, right }, tag) in book.nodes.iter().zip(tagged) {
+        nodes.push(match form {
+            EITHER | THEN => node(form, place(left), place(right)),
+            TAGGED | REF => node(form, place(left), right),
+            _ => node(form, left, right),
+        });
+        if tag {
+            let label = random.word().max(1);
+            nodes.push(node(TAGGED, nodes.len() as u16 - 1, label));
+        }
+    }
+    Book {
+        kinds: book.kinds,
+        start: place(book.start),
+        nodes,
+    }
+}
+
 /// A small book for recognition by derivations: at most 3 kinds.
 pub fn little_book(random: &mut Random) -> Book {
     let kinds = random.within(1, 3) as u16;

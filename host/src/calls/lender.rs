@@ -45,6 +45,7 @@ enum Region {
     Sealed(Sealed),
     Bytes(Lent<u8>),
     Words(Lent<u16>),
+    Slots(Lent<u32>),
     None,
 }
 
@@ -106,6 +107,7 @@ impl Lender {
                 Way::Read(_) => Region::Sealed(Sealed::new(sort.most)),
                 Way::WriteBytes => Region::Bytes(Lent::new(sort.most)),
                 Way::WriteWords => Region::Words(Lent::new(sort.most)),
+                Way::WriteSlots => Region::Slots(Lent::new(sort.most)),
                 Way::Number => Region::None,
             })
     }
@@ -125,6 +127,9 @@ impl Region {
             (Region::Words(lent), &Argument::Room(room)) => {
                 lent.lend(doubled(garbage), room, edge).as_mut_ptr().cast()
             }
+            (Region::Slots(lent), &Argument::Room(room)) => {
+                lent.lend(fourfold(garbage), room, edge).as_mut_ptr().cast()
+            }
             (Region::None, Argument::Number(_)) => null_mut(),
             _ => panic!("an argument of another sort"),
         };
@@ -142,6 +147,7 @@ impl Region {
             Region::Sealed(_) | Region::None => panic!("nothing is left where nothing is written"),
             Region::Bytes(lent) => Left::Bytes(lent.part(room, edge).to_vec()),
             Region::Words(lent) => Left::Words(lent.part(room, edge).to_vec()),
+            Region::Slots(lent) => Left::Slots(lent.part(room, edge).to_vec()),
         }
     }
 
@@ -152,6 +158,7 @@ impl Region {
             Region::Sealed(_) | Region::None => true,
             Region::Bytes(lent) => lent.kept_beside(garbage, room, edge),
             Region::Words(lent) => lent.kept_beside(doubled(garbage), room, edge),
+            Region::Slots(lent) => lent.kept_beside(fourfold(garbage), room, edge),
         }
     }
 }
@@ -159,4 +166,9 @@ impl Region {
 /// A word of this byte twice.
 fn doubled(byte: u8) -> u16 {
     u16::from_le_bytes([byte; 2])
+}
+
+/// A slot of this byte four times.
+fn fourfold(byte: u8) -> u32 {
+    u32::from_le_bytes([byte; 4])
 }

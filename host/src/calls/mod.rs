@@ -21,7 +21,7 @@ use std::fmt::LowerHex;
 pub type Compile = fn(&[u8], &mut [u8]) -> Compiled;
 
 /// A reader.
-pub type Read = fn(&[u8], &[u8], &mut [u16], &mut [u16]) -> Reading;
+pub type Read = fn(&[u8], &[u8], &mut [u32], &mut [u16]) -> Reading;
 
 /// All calls; a call's place here is its number.
 pub static CALLS: [&Call; 9] = [
@@ -88,6 +88,7 @@ impl Call {
             told += &match left {
                 Left::Bytes(bytes) => buffer_told(bytes),
                 Left::Words(words) => buffer_told(words),
+                Left::Slots(slots) => buffer_told(slots),
             };
         }
         if !answer.kept {
@@ -155,6 +156,7 @@ impl Argument {
 pub enum Left {
     Bytes(Vec<u8>),
     Words(Vec<u16>),
+    Slots(Vec<u32>),
 }
 
 /// What a call answers, and what it leaves in the buffers lent to it.

@@ -11,6 +11,7 @@ use crate::books::limits::long_run;
 use crate::books::loose::{any_bytes, beyond_limits, good_book};
 use crate::books::random::Random;
 use crate::books::runs::{any_run, Heights};
+use crate::books::shapes::with_stages;
 use crate::compile::plan_of;
 use crate::ffi;
 use crate::read;
@@ -19,7 +20,7 @@ use crate::read;
 pub static READ: Call = Call {
     name: "read",
     takes: &[&PLAN, &RUN, &SLOTS, &TREE_BUFFER],
-    fields: &["number", "place", "records", "expected"],
+    fields: &["number", "place", "records", "label", "expected"],
     answers: &[
         (DONE, 7_000),
         (PLAN_FORM, 10_000),
@@ -55,10 +56,10 @@ fn wanted(arguments: &[Argument]) -> Answer {
     let [plan, run, slots, room] = arguments else {
         panic!("four arguments")
     };
-    let mut held = vec![0xA5A5; slots.room()];
+    let mut held = vec![0xA5A5_A5A5; slots.room()];
     let mut tree = vec![0xA5A5; room.room()];
     let reading = read::read(plan.bytes(), run.bytes(), &mut held, &mut tree);
-    Answer::new(fields(reading), vec![Left::Words(held), Left::Words(tree)])
+    Answer::new(fields(reading), vec![Left::Slots(held), Left::Words(tree)])
 }
 
 /// The call on parts of memory.
@@ -84,9 +85,16 @@ fn fields(reading: Reading) -> Vec<u64> {
         number,
         place,
         records,
+        label,
         expected,
     } = reading;
-    vec![number.into(), place.into(), records.into(), expected]
+    vec![
+        number.into(),
+        place.into(),
+        records.into(),
+        label.into(),
+        expected,
+    ]
 }
 
 /// A plan, a run for it, and buffers about the size that it needs.
@@ -105,7 +113,10 @@ fn any(random: &mut Random) -> Vec<Argument> {
 
 /// A plan, compiled, forged, bit-flipped or of no form, and a run for it.
 fn any_plan_and_run(random: &mut Random) -> (Vec<u8>, Vec<u8>) {
-    let book = good_book(random);
+    let mut book = good_book(random);
+    if random.once_in(3) {
+        book = with_stages(random, &book);
+    }
     let mut plan = match random.below(10) {
         0..=2 => plan_of(&book),
         3..=6 => any_plan(random, &book),

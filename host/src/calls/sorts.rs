@@ -20,6 +20,8 @@ pub enum Way {
     WriteBytes,
     /// 16-bit numbers to be written.
     WriteWords,
+    /// 32-bit numbers to be written.
+    WriteSlots,
     /// A number, handed over as it is.
     Number,
 }
@@ -100,7 +102,7 @@ pub static PLAN_BUFFER: Sort = Sort {
 /// The holding slots.
 pub static SLOTS: Sort = Sort {
     name: "slots",
-    way: Way::WriteWords,
+    way: Way::WriteSlots,
     most: MOST,
 };
 

@@ -8,7 +8,7 @@ extern "C" {
         plan_len: usize,
         run: *const u8,
         run_len: usize,
-        held: *mut u16,
+        held: *mut u32,
         held_len: usize,
         tree: *mut u16,
         tree_len: usize,
@@ -17,7 +17,7 @@ extern "C" {
 
 /// What the proved library answers to a run under a plan, and leaves in both buffers.
 #[inline]
-pub fn read(plan: &[u8], run: &[u8], held: &mut [u16], tree: &mut [u16]) -> Reading {
+pub fn read(plan: &[u8], run: &[u8], held: &mut [u32], tree: &mut [u16]) -> Reading {
     // SAFETY: the pointers and lengths are those of slices; those to write do not overlap any other.
     unsafe {
         drumbook_read(

@@ -12,7 +12,7 @@ use Rattle.book.specs.Form.{DONE}
 use Rattle.running.specs.Running.{Plan, tells}
 use Rattle.plan.specs.Form.{planFrom, planStart, Runnable}
 use Rattle.plan.proofs.Runnable.{start-node}
-use Rattle.reader.specs.Machine.{Passed, SlotsHold, stoppedAt, passOf}
+use Rattle.reader.specs.Machine.{Passed, slotOf, stoppedAt, passOf}
 use Rattle.reader.specs.Ready.{Ready}
 use Rattle.reader.specs.Reads.{outcome}
 use Rattle.reader.proofs.Simulation.{bounded}
@@ -171,7 +171,7 @@ again-stops : (w : Again)
     → let a = start (first w) .args in
     again w
     ≡ passOf (plan-of (first w)) 0 (take (first w .pass-events .result .at) (a .run .now)) 1 0
-    (set (met (first w) .held) 0 (plan-of (first w) .start)) (take 0 (met (first w) .tree))
+    (set (met (first w) .held) 0 (slotOf (plan-of (first w) .start) 0)) (take 0 (met (first w) .tree))
 unfolding planFrom
 again-stops w = w .pass-events2 .ensures .0
 

@@ -9,16 +9,16 @@ use lib.Bits.{or-zero-l}
 use lib.ListN.{length, getD}
 use Rattle.kinds.specs.Kinds.{joined}
 use Rattle.running.specs.Running.{rowFirst, expected}
+use Rattle.running.specs.Stages.{nodesOf}
 use Rattle.plan.specs.Form.{planFrom}
-use Rattle.plan.proofs.Runnable.{few-nodes}
-use Rattle.reader.specs.Machine.{SlotsHold, stack}
+use Rattle.reader.specs.Machine.{nodeIn, stack}
 use Rattle.reader.proofs.Rows.{Joining, joined-all, joined-here, joined-on}
 use Rattle.reader.proofs.expected_by.Statement.{statement}
 use Rattle.reader.proofs.expected_by.Tie as tie
 
 abbrev Inv-loop : tie.InvT-loop
 Inv-loop plan nodes kinds count held set₀ parts₀ set parts =
-    (parts ≤ count) × Joining (planFrom plan nodes kinds) held (expected (planFrom plan nodes kinds) (stack held count)) set parts
+    (parts ≤ count) × Joining (planFrom plan nodes kinds) held (expected (planFrom plan nodes kinds) (nodesOf (stack held count))) set parts
 
 abbrev μ-loop : tie.MeasureT-loop
 μ-loop plan nodes kinds count held set₀ parts₀ set parts = parts
@@ -34,7 +34,7 @@ start t = t .before .before .before .before
 last-inside : (t : Turn) → t .before .loop .parts - 1 < length (start t .args .held .now)
 last-inside t = omega (arith, t .loop-test .taken, t .before .loop .inv .0, start t .pre .1 .few)
 
-last-below : (t : Turn) → getD (start t .args .held .now) (t .before .loop .parts - 1) 0 < start t .args .nodes
+last-below : (t : Turn) → nodeIn (getD (start t .args .held .now) (t .before .loop .parts - 1) 0) < start t .args .nodes
 last-below t = start t .pre .1 .below _ (omega (arith, t .loop-test .taken, t .before .loop .inv .0))
 
 loop-holds : tie.Need-loop-holds Inv-loop μ-loop
@@ -50,7 +50,7 @@ shared-slice-read-part : tie.Need-shared-slice-read-part Inv-loop μ-loop
 shared-slice-read-part c = last-inside (c .before)
 
 cast-part : tie.Need-cast-part Inv-loop μ-loop
-cast-part c = let t = c .before in omega (arith, last-below t, few-nodes (start t .pre .0))
+cast-part c = omega (arith, c .shared-slice-known3 .given (c .before .before .loop .parts - 1))
 
 row-first-requires : tie.Need-row-first-requires Inv-loop μ-loop
 row-first-requires c κs = let t = c .before in (start t .pre .0, last-below t)

@@ -1,7 +1,7 @@
 -- `reader::finish` meets its contract. The loop's invariant: taking the parts left off comes to the run's end, and the state is sound. The
 -- measure is the parts left.
 use mathlib.Core.Path.{refl, sym, _∙_}
-use Prim.Native.Nat.{_+_, _<_}
+use Prim.Native.Nat.{_+_, _-_, _<_}
 use native.Mathlib.Omega.{arith}
 use lib.ListN.{length}
 use borrow.Author.Needs.{needs}
@@ -52,7 +52,7 @@ shared-slice-read-node : tie.Need-shared-slice-read-node Inv-loop μ-loop
 shared-slice-read-node c = let t = c .before in last-inside (t .before .loop .inv) (t .loop-test .taken)
 
 cast-node : tie.Need-cast-node Inv-loop μ-loop
-cast-node c = omega (arith, last-small (c .before))
+cast-node c = omega (arith, c .shared-slice-known3 .given (c .before .before .loop .parts - 1))
 
 cell-at-requires : tie.Need-cell-at-requires Inv-loop μ-loop
 cell-at-requires c κs =

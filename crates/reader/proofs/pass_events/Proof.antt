@@ -8,7 +8,7 @@ use borrow.Author.Needs.{needs}
 use lib.ListN.{length, getD, set, length-set}
 use Rattle.plan.specs.Form.{planFrom, planStart}
 use Rattle.plan.proofs.Runnable.{few-nodes, settings-inside, start-node}
-use Rattle.reader.specs.Machine.{After, after, eventOf, passOf}
+use Rattle.reader.specs.Machine.{After, after, slotOf, eventOf, passOf}
 use Rattle.reader.specs.Ready.{Ready}
 use Rattle.reader.proofs.Simulation.{bounded}
 use Rattle.reader.proofs.RunUnderWay.{Going, run-ends, run-refused, run-intact, run-goes}
@@ -29,22 +29,22 @@ abbrev At : Type 0
 At = tie.At-loop Inv-loop μ-loop
 
 abbrev start : At → tie.Start Inv-loop μ-loop
-start l = l .before .before .before .before .before .before
+start l = l .before .before .before .before .before .before .before
 
 -- the slots are as many as at the entry
-slots-are : (l : At) → length (set (start l .args .held .now) 0 (l .before .plan-start .result)) ≡ length (start l .args .held .now)
-slots-are l = length-set (start l .args .held .now) 0 (l .before .plan-start .result)
+slots-are : (l : At) → length (set (start l .args .held .now) 0 (l .before .slot-of .result)) ≡ length (start l .args .held .now)
+slots-are l = length-set (start l .args .held .now) 0 (l .before .slot-of .result)
 
 -- the events from the first slot's start
 same-start : (l : At)
     → let a = start l .args in
     let p = planFrom (a .plan .now) (a .nodes) (a .kinds) in
-    passOf p 0 (a .run .now) 1 0 (set (a .held .now) 0 (l .before .plan-start .result)) (a .tree .now)
-    ≡ passOf p 0 (a .run .now) 1 0 (set (a .held .now) 0 (planStart (a .plan .now))) (a .tree .now)
+    passOf p 0 (a .run .now) 1 0 (set (a .held .now) 0 (l .before .slot-of .result)) (a .tree .now)
+    ≡ passOf p 0 (a .run .now) 1 0 (set (a .held .now) 0 (slotOf (planStart (a .plan .now)) 0)) (a .tree .now)
 same-start l =
     let a = start l .args in
     ap (λ (n : ℕ). passOf (planFrom (a .plan .now) (a .nodes) (a .kinds)) 0 (a .run .now) 1 0 (set (a .held .now) 0 n) (a .tree .now))
-    (l .before .plan-start .ensures .0)
+    (l .before .slot-of .ensures ∙ ap (λ (n : ℕ). slotOf n 0) (l .before .before .plan-start .ensures .0))
 
 -- a state with few records is ready for a step
 ready : (l : At)
@@ -82,8 +82,8 @@ steps v = rw (v .before .before .before .wide .ensures .0) at (v .take-event .en
 plan-start-requires : tie.Need-plan-start-requires Inv-loop μ-loop
 plan-start-requires c κs = settings-inside _ (c .before .before .before .before .pre .0 .good)
 
-cast-held : tie.Need-cast-held Inv-loop μ-loop
-cast-held c = search needs
+slot-of-requires : tie.Need-slot-of-requires Inv-loop μ-loop
+slot-of-requires c κs = (c .plan-start .ensures .1, omega arith)
 
 slice-write-held : tie.Need-slice-write-held Inv-loop μ-loop
 slice-write-held c = search needs
@@ -91,13 +91,14 @@ slice-write-held c = search needs
 loop-holds : tie.Need-loop-holds Inv-loop μ-loop
 unfolding planFrom
 loop-holds c =
-    let s = c .before .before .before .before .before in
+    let s = c .before .before .before .before .before .before in
     let held = s .args .held .now in
-    let below : c .plan-start .result < s .args .nodes = rw (c .plan-start .ensures .0) (start-node (s .pre .0)) in
+    let runs = s .pre .0 in
+    let below : c .before .plan-start .result < s .args .nodes = rw (c .before .plan-start .ensures .0) (start-node runs) in
     record {
       within = omega arith;
       rest = refl;
-      safe = rw (length-set held 0 (c .plan-start .result)) (started held below (s .pre .2));
+      safe = rw (length-set held 0 (c .slot-of .result), c .slot-of .ensures) (started held (few-nodes runs) below (s .pre .2));
       tree-long = refl;
       small = omega arith;
     }
@@ -169,7 +170,7 @@ pass-events-spec =
     Inv-loop
     μ-loop
     plan-start-requires
-    cast-held
+    slot-of-requires
     slice-write-held
     loop-holds
     shared-slice-read-wide

@@ -8,8 +8,8 @@ use Rattle.reader.proofs.read.Tie as tie
 answer-requires : tie.Need-answer-requires
 answer-requires c κs = search needs
 
-clear-records-requires : tie.Need-clear-records-requires
-clear-records-requires c κs = search needs
+clear-slots-requires : tie.Need-clear-slots-requires
+clear-slots-requires c κs = search needs
 
 same-length : tie.Need-same-length
 same-length c = search needs
@@ -23,9 +23,9 @@ returns c =
     let v = cleared .before .before .before .before .before .before in
     record {
       outcome-is = v .answer .ensures;
-      slots-zero = cleared .clear-records .ensures ∙ ap zeros (v .answer .kept .1 .1 .0);
+      slots-zero = cleared .clear-slots .ensures ∙ ap zeros (v .answer .kept .1 .1 .0);
     }
 
 pub read-spec : {M : Type 1} → statement M
 read-spec =
-    tie.close (tie.spec answer-requires clear-records-requires same-length same-length-2 returns)
+    tie.close (tie.spec answer-requires clear-slots-requires same-length same-length-2 returns)

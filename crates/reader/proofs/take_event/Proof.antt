@@ -1,7 +1,7 @@
 -- `reader::take_event` meets its contract. The loop's invariant: taking the parts left off comes to the event's end, and the state is
 -- sound. The measure is the parts left.
 use mathlib.Core.Path.{refl, sym, _∙_}
-use Prim.Native.Nat.{_+_, _<_}
+use Prim.Native.Nat.{_+_, _-_, _<_}
 use native.Mathlib.Omega.{arith}
 use lib.ListN.{length}
 use borrow.Author.Needs.{needs}
@@ -9,7 +9,7 @@ use borrow.Author.Tests.{lt-ltb, le-ltb, eq-eqb, ne-eqb}
 use Rattle.plan.specs.Form.{planFrom, Runnable}
 use Rattle.plan.proofs.Runnable.{few-nodes}
 use Rattle.reader.specs.Machine.{takeOf, eventOf}
-use Rattle.reader.proofs.PartsTakenOff.{Taking, lastAt, last-below, last-inside, fewer}
+use Rattle.reader.proofs.PartsTakenOff.{Taking, lastAt, last-below, label-small, last-inside, fewer}
 use Rattle.reader.proofs.PartsTakenOff.{take-none, take-walks, take-refuses, take-passes}
 use Rattle.reader.proofs.take_event.Statement.{statement}
 use Rattle.reader.proofs.take_event.Tie as tie
@@ -58,14 +58,14 @@ loop-holds c =
 sub-parts : tie.Need-sub-parts Inv-loop μ-loop
 sub-parts c = search needs
 
-mul-node : tie.Need-mul-node Inv-loop μ-loop
-mul-node c = omega (arith, c .before .loop .inv .small, start c .pre .few-records)
+mul-slot : tie.Need-mul-slot Inv-loop μ-loop
+mul-slot c = omega (arith, c .before .loop .inv .small, start c .pre .few-records)
 
-slice-read-node : tie.Need-slice-read-node Inv-loop μ-loop
-slice-read-node c = let t = c .before in last-inside (t .before .loop .inv) (t .loop-test .taken)
+slice-read-slot : tie.Need-slice-read-slot Inv-loop μ-loop
+slice-read-slot c = let t = c .before in last-inside (t .before .loop .inv) (t .loop-test .taken)
 
-cast-node : tie.Need-cast-node Inv-loop μ-loop
-cast-node c = omega (arith, last-small (c .before))
+cast-slot : tie.Need-cast-slot Inv-loop μ-loop
+cast-slot c = omega (arith, c .slice-known3 .given (c .before .before .loop .parts - 1))
 
 cell-at-requires : tie.Need-cell-at-requires Inv-loop μ-loop
 cell-at-requires c κs =
@@ -85,19 +85,20 @@ walk-requires c κs =
       },
       known t,
       last-below inv some,
+      label-small inv some,
     )
 
 same-length : tie.Need-same-length Inv-loop μ-loop
 same-length c =
     let walked = c .before .before .before .before in
     let t = turn (walked .before .before .before .before) in
-    walked .walk .kept .1 .1 .1 .1 .1 .1 .1 .0 ∙ t .before .loop .inv .safe .long
+    walked .walk .kept .1 .1 .1 .1 .1 .1 .1 .1 .0 ∙ t .before .loop .inv .safe .long
 
 same-length-2 : tie.Need-same-length-2 Inv-loop μ-loop
 same-length-2 c =
     let walked = c .before .before .before .before in
     let t = turn (walked .before .before .before .before) in
-    walked .walk .kept .1 .1 .1 .1 .1 .1 .1 .1 .0 ∙ t .before .loop .inv .tree-long
+    walked .walk .kept .1 .1 .1 .1 .1 .1 .1 .1 .1 .0 ∙ t .before .loop .inv .tree-long
 
 returns-2 : tie.Need-returns-2 Inv-loop μ-loop
 unfolding planFrom
@@ -183,9 +184,9 @@ take-event-spec =
     returns
     loop-holds
     sub-parts
-    mul-node
-    slice-read-node
-    cast-node
+    mul-slot
+    slice-read-slot
+    cast-slot
     cell-at-requires
     walk-requires
     same-length
