@@ -26,7 +26,8 @@ enum {
     MOST_NAMED = 4184,
     GARBAGE = 0xA5,
     SAMPLES = 200,
-    SAMPLE_NS = 1000000
+    SAMPLE_NS = 1000000,
+    SLOW_NS = 2000000000
 };
 
 /* A book in the making. */
@@ -70,6 +71,8 @@ typedef struct {
     size_t book_len, plan_len;
     const run *events;
     size_t slots, room;
+    const uint16_t *records;
+    size_t count;
 } call;
 
 /* One build's way to make a call. */
@@ -86,7 +89,7 @@ static run events;
 static uint8_t plan[MOST_PLAN], made[MOST_PLAN], wanted[MOST_PLAN];
 static char sheet[MOST_SHEET + 32];
 static size_t sheet_len;
-static uint8_t named[MOST_NAMED];
+static uint8_t named[MOST_NAMED], unread[MOST_EVENTS];
 static uint32_t held[MOST_SLOTS], wanted_held[MOST_SLOTS];
 static uint16_t tree[MOST_ROOM], wanted_tree[MOST_ROOM];
 
@@ -246,6 +249,13 @@ static void reads(const build *side, const call *c)
     side->reads(c->plan, c->plan_len, c->events->events, c->events->length, held, c->slots, tree, c->room);
 }
 
+/* Writes the run of a tree. */
+static void unreads(const build *side, const call *c)
+{
+    (void)side;
+    drumbook_unread(c->book, c->book_len, c->records, c->count, unread, c->events->length);
+}
+
 /* The time in nanoseconds. */
 static double now(void)
 {
@@ -280,6 +290,20 @@ static times best_times(way *make, const call *c)
         if (best[s] < best[fastest])
             fastest = s;
     return (times){best[0], best[fastest], builds[fastest].label};
+}
+
+/* The library's best times of writing a tree's run and of reading that run, in turn; one sample of what is slow. */
+static times unread_times(const call *c)
+{
+    const build *side = &builds[0];
+    double begun = now(), ours = timed(unreads, side, c, 1), theirs = timed(reads, side, c, 1);
+    for (size_t sample = 0; sample < SAMPLES && now() - begun < SLOW_NS; sample++) {
+        double there = timed(unreads, side, c, 1 + (size_t)(SAMPLE_NS / ours));
+        double back = timed(reads, side, c, 1 + (size_t)(SAMPLE_NS / theirs));
+        ours = there < ours ? there : ours;
+        theirs = back < theirs ? back : theirs;
+    }
+    return (times){ours, theirs, "drumbook, reading it"};
 }
 
 /* Ends the program where a build differs from the others. */
@@ -348,6 +372,20 @@ static void read_row(const char *name, size_t length, size_t slots)
     call c = {.plan = plan, .plan_len = size, .events = &events, .slots = slots, .room = MOST_ROOM};
     c.room = compared(name, &c, DONE).records;
     print_row(name, best_times(reads, &c), events.length, c.room);
+}
+
+/* Measures writing the run of the current run's tree beside reading it. */
+static void unread_row(const char *name, size_t length, size_t slots)
+{
+    size_t size = drumbook_compile(current.bytes, length, plan, MOST_PLAN).size;
+    call c = {.book = current.bytes, .book_len = length, .plan = plan, .plan_len = size, .events = &events,
+              .slots = slots, .room = MOST_ROOM, .records = wanted_tree};
+    c.count = c.room = compared(name, &c, DONE).records;
+    memset(unread, GARBAGE, sizeof unread);
+    drumbook_written w = drumbook_unread(c.book, c.book_len, c.records, c.count, unread, events.length);
+    must(w.number == DONE && w.size == events.length, name, &builds[0]);
+    must(memcmp(unread, events.events, events.length) == 0, name, &builds[0]);
+    print_row(name, unread_times(&c), events.length, c.count);
 }
 
 /* Compares and measures the test of the current book's plan: a reading with no slot, which ends after it. */
@@ -480,6 +518,29 @@ static void sheet_rows(void)
     }
 }
 
+/* Measures writing the runs of trees: those of the rows above. */
+static void unread_rows(void)
+{
+    rinse_run(3);
+    unread_row("unread, rinse book, 3 events", rinse(), 2);
+    rinse_run(MOST_EVENTS);
+    unread_row("unread, rinse book, 65535 events", rinse(), 2);
+    process_run(7, 14, MOST_EVENTS);
+    unread_row("unread, process, 64 nodes, 65520 events", process(7, 14, 64), 16);
+    process_run(63, 64, 3 * 63);
+    unread_row("unread, process, 512 nodes, 189 events", process(63, 64, 512), 16);
+    process_run(63, 64, MOST_EVENTS);
+    unread_row("unread, process, 512 nodes, 65394 events", process(63, 64, 512), 16);
+    nesting_run(32);
+    unread_row("unread, nesting, 64 events", nesting(), MOST_SLOTS);
+    nesting_run(1000);
+    unread_row("unread, nesting, 2000 events", nesting(), MOST_SLOTS);
+    nesting_run(32767);
+    unread_row("unread, nesting, 65534 events", nesting(), MOST_SLOTS);
+    even_run(2000);
+    unread_row("unread, 511 nodes to each of 2000 events", winding(), 2);
+}
+
 int main(void)
 {
     printf("%-41s %9s %9s %6s %9s %9s  %s\n", "best of many, clearing included", "ours, ns", "C, ns", "ratio",
@@ -488,5 +549,6 @@ int main(void)
     test_rows();
     read_rows();
     sheet_rows();
+    unread_rows();
     return 0;
 }

@@ -1,7 +1,7 @@
 /*
- * Asks how long the plan of the rinse book with names is and compiles it; reads a lawful run and prints its tree; says
- * why others are refused, and which runs are accepted at all; and in which stage runs of a book with stages stop. Kinds
- * are told by their names.
+ * Asks how long the plan of the rinse book with names is and compiles it; reads a lawful run, prints its tree and
+ * writes its run back; says why others are refused, and which runs are accepted at all; and in which stage runs of a
+ * book with stages stop. Kinds are told by their names.
  */
 #include <stdio.h>
 
@@ -36,6 +36,16 @@ static void print_tree(const uint16_t *tree, uint32_t records)
     for (uint32_t i = 0; i < records; i++)
         printf("  node %u%s\n", (unsigned)(tree[i] % DRUMBOOK_EMPTY_RECORD),
                tree[i] >= DRUMBOOK_EMPTY_RECORD ? ", empty" : "");
+}
+
+/* Writes the run of a tree back, and prints it. */
+static void write_back(const uint16_t *tree, size_t records)
+{
+    uint8_t run[ROOM];
+    drumbook_written written = drumbook_unread(named_rinse, sizeof named_rinse, tree, records, run, ROOM);
+    printf("  written back, %s: ", words(written.number));
+    print_run(run, written.size);
+    printf("\n");
 }
 
 /* Prints the kinds of a set in words. */
@@ -86,6 +96,7 @@ static uint32_t show(const uint8_t *plan, size_t size, const uint8_t *run, size_
     if (reading.number == DRUMBOOK_DONE) {
         printf(": accepted, %u records\n", (unsigned)reading.records);
         print_tree(tree, reading.records);
+        write_back(tree, reading.records);
     } else {
         print_refusal(&reading);
     }

@@ -36,7 +36,8 @@ static uint8_t small[BOOK_NODES + NODE_BYTES * 64], middle[BOOK_NODES + NODE_BYT
 static uint8_t large[PLAIN_BOOK], damaged[sizeof rinse];
 static uint8_t house[DRUMBOOK_HOUSE_NAMES * 3], named[DRUMBOOK_LARGEST_BOOK], moved[DRUMBOOK_LARGEST_BOOK];
 static uint32_t held[SLOTS];
-static uint16_t tree[ROOM];
+static uint16_t tree[ROOM], records[ROOM];
+static size_t record_count;
 
 static ucontext_t here, there;
 static const row *current;
@@ -54,6 +55,7 @@ static drumbook_part (*volatile name_call)(const uint8_t *, size_t, const uint8_
 
 static drumbook_written (*volatile sheet_call)(const uint8_t *, size_t, uint8_t *, size_t);
 static drumbook_written (*volatile place_call)(const uint8_t *, size_t, uint32_t);
+static drumbook_written (*volatile unread_call)(const uint8_t *, size_t, const uint16_t *, size_t, uint8_t *, size_t);
 
 /* Makes nothing of a sheet. */
 static drumbook_written no_sheet(const uint8_t *sheet, size_t sheet_len, uint8_t *to, size_t to_len)
@@ -66,6 +68,14 @@ static drumbook_written no_sheet(const uint8_t *sheet, size_t sheet_len, uint8_t
 static drumbook_written no_place(const uint8_t *sheet, size_t sheet_len, uint32_t node)
 {
     (void)sheet, (void)sheet_len, (void)node;
+    return (drumbook_written){0, 0, 0};
+}
+
+/* Writes no run. */
+static drumbook_written no_unread(const uint8_t *book, size_t book_len, const uint16_t *records, size_t records_len,
+                                  uint8_t *to, size_t to_len)
+{
+    (void)book, (void)book_len, (void)records, (void)records_len, (void)to, (void)to_len;
     return (drumbook_written){0, 0, 0};
 }
 
@@ -153,6 +163,12 @@ static uint32_t places(const input *given)
     return place_call(given->bytes, given->length, 0).number;
 }
 
+/* Writes the run of the tree that was read last. */
+static uint32_t unreads(const input *given)
+{
+    return unread_call(given->bytes, given->length, records, record_count, moved, sizeof moved).number;
+}
+
 /* Makes the current call. */
 static void make(void)
 {
@@ -187,12 +203,12 @@ static size_t taken(void)
 {
     form_call = drumbook_form, compile_call = drumbook_compile, read_call = drumbook_read;
     forward_call = drumbook_forward, back_call = drumbook_back, name_call = drumbook_name;
-    sheet_call = drumbook_sheet, place_call = drumbook_sheet_place;
+    sheet_call = drumbook_sheet, place_call = drumbook_sheet_place, unread_call = drumbook_unread;
     make();
     size_t all = most_written();
     form_call = no_form, compile_call = no_compile, read_call = no_read;
     forward_call = no_move, back_call = no_move, name_call = no_name;
-    sheet_call = no_sheet, place_call = no_place;
+    sheet_call = no_sheet, place_call = no_place, unread_call = no_unread;
     uint32_t number = answered;
     size_t way = most_written();
     answered = number;
@@ -259,6 +275,7 @@ int main(void)
     damaged[0] = 4;
     size_t rinse_size = drumbook_compile(rinse, sizeof rinse, rinse_plan, sizeof rinse_plan).size;
     size_t size = drumbook_compile(large, sizeof large, plan, sizeof plan).size;
+    record_count = drumbook_read(plan, size, zero, sizeof zero, held, SLOTS, records, ROOM).records;
     const row rows[] = {
         {"form, no bytes", forms, {NULL, 0, NULL, 0}, DRUMBOOK_LENGTH, 300},
         {"form, the largest book", forms, {large, sizeof large, NULL, 0}, DRUMBOOK_DONE, 300},
@@ -276,6 +293,9 @@ int main(void)
         {"back, the largest book", backs, {named, named_size, NULL, 0}, DRUMBOOK_DONE, 600},
         {"name, in the house list", names, {large, sizeof large, NULL, 0}, 2, 400},
         {"name, in the book", names, {named, named_size, NULL, 0}, 1, 400},
+        {"unread, refused: LENGTH", unreads, {NULL, 0, NULL, 0}, DRUMBOOK_LENGTH, 17200},
+        {"unread, refused: TREE", unreads, {rinse, sizeof rinse, NULL, 0}, DRUMBOOK_TREE, 17200},
+        {"unread, the largest book", unreads, {large, sizeof large, NULL, 0}, DRUMBOOK_DONE, 17200},
         {"sheet, no bytes", sheets, {NULL, 0, NULL, 0}, DRUMBOOK_SHEET, 48000},
         {"sheet, 512 nodes, 32 deep", sheets, {(uint8_t *)sheet, sheet_size, NULL, 0}, DRUMBOOK_DONE, 48000},
         {"sheet place, the same", places, {(uint8_t *)sheet, sheet_size, NULL, 0}, DRUMBOOK_DONE, 48000},

@@ -64,6 +64,10 @@ enum {
     DRUMBOOK_KEPT = 20,       /* moving back would lose names: they are not the first of the house list */
     DRUMBOOK_OUT_ROOM = 21,   /* the buffer is shorter than what is to be written */
     DRUMBOOK_UNUSED = 22,     /* the start does not reach every node; place: the lowest unreachable node */
+    DRUMBOOK_TREE = 23,       /* the records are no tree of the book; place: the first at which no such tree begins so,
+                                 or their count where more is due */
+    DRUMBOOK_RUN_LONG = 24,   /* the tree's run has more than 65,535 events */
+    DRUMBOOK_RUN_ROOM = 25,   /* the buffer is shorter than the tree's run */
     DRUMBOOK_SHEET = 26,      /* the text is no sheet; place: the first byte at which no sheet begins so, or its length
                                  where more is due */
     DRUMBOOK_TWICE = 27,      /* a rule's name comes again; place: where it first does */
@@ -182,6 +186,18 @@ drumbook_written drumbook_sheet(const uint8_t *sheet, size_t sheet_len, uint8_t 
  * of nodes as place, for a node that the book does not have. The size is 0.
  */
 drumbook_written drumbook_sheet_place(const uint8_t *sheet, size_t sheet_len, uint32_t node);
+
+/*
+ * Writes the run of a tree: of any book, and any records, of any number. A book that passes and records that are the
+ * whole derivation of something that its start derives, as drumbook_read writes it, answer DRUMBOOK_DONE with the run
+ * in the first size bytes. Otherwise answers the book's own refusal, the first of 1 to 4, 19, 22, 5 and 6, with its
+ * place; then 23, 24, 25. All bytes after the size, and all at a refusal, are zero. Reading a written run, with room
+ * enough, gives the tree back, and a tree that was read gives its run back. Takes some 17 KB of stack, as compiling
+ * does, however deep the tree is, and no other memory; a tree in which more than 64 parts are due at once takes time
+ * for looking back, at most its records times its depth.
+ */
+drumbook_written drumbook_unread(const uint8_t *book, size_t book_len, const uint16_t *tree, size_t tree_len,
+                                 uint8_t *run, size_t run_len);
 
 #ifdef __cplusplus
 }

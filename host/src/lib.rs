@@ -19,6 +19,7 @@ pub mod recognise;
 pub mod sheet;
 pub mod shown;
 pub mod smaller;
+pub mod unread;
 pub mod worked;
 
 #[cfg(test)]
@@ -54,6 +55,9 @@ mod tests {
             ("KEPT", KEPT),
             ("OUT_ROOM", OUT_ROOM),
             ("UNUSED", UNUSED),
+            ("TREE", TREE),
+            ("RUN_LONG", RUN_LONG),
+            ("RUN_ROOM", RUN_ROOM),
             ("SHEET", SHEET),
             ("TWICE", TWICE),
             ("BIG", BIG),

@@ -65,7 +65,7 @@ pub fn written(out: &mut [u8], bytes: Result<Vec<u8>, (u32, usize)>) -> Written 
 }
 
 /// A refusal.
-fn refused(number: u32, place: usize) -> Written {
+pub fn refused(number: u32, place: usize) -> Written {
     Written {
         number,
         size: 0,

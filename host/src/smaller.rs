@@ -96,24 +96,38 @@ fn plainer(book: &Book) -> Vec<Book> {
     books
 }
 
-/// Fewer of these bytes, from half of them down to one taken out, then one of them made smaller.
+/// Fewer of these bytes, or one of them smaller.
 pub fn smaller_bytes(bytes: &[u8]) -> Smaller<Vec<u8>> {
-    let (all, same) = (bytes.to_vec(), bytes.to_vec());
-    let sizes = std::iter::successors(Some(bytes.len()), |size| Some(size / 2));
+    smaller_lists(bytes, usize::from, |number| number as u8)
+}
+
+/// Fewer of these words, or one of them smaller.
+pub fn smaller_words(words: &[u16]) -> Smaller<Vec<u16>> {
+    smaller_lists(words, usize::from, |number| number as u16)
+}
+
+/// Fewer of these elements, from half of them down to one taken out, then one of them made smaller.
+fn smaller_lists<T: Copy + 'static>(
+    list: &[T],
+    number: fn(T) -> usize,
+    element: fn(usize) -> T,
+) -> Smaller<Vec<T>> {
+    let (all, same) = (list.to_vec(), list.to_vec());
+    let sizes = std::iter::successors(Some(list.len()), |size| Some(size / 2));
     let cuts = sizes
         .take_while(|&size| size > 0)
         .flat_map(move |size| (0..all.len()).step_by(size).map(move |at| (at, size)));
-    let all = bytes.to_vec();
+    let all = list.to_vec();
     let fewer = cuts.map(move |(at, size)| {
         let end = (at + size).min(all.len());
         [&all[..at], &all[end..]].concat()
     });
-    let lower = (0..bytes.len()).flat_map(move |at| {
+    let lower = (0..list.len()).flat_map(move |at| {
         let same = same.clone();
-        smaller_numbers(usize::from(same[at])).map(move |value| {
-            let mut bytes = same.clone();
-            bytes[at] = value as u8;
-            bytes
+        smaller_numbers(number(same[at])).map(move |value| {
+            let mut list = same.clone();
+            list[at] = element(value);
+            list
         })
     });
     Box::new(fewer.chain(lower))

@@ -2,6 +2,7 @@
 //! width.
 
 use host::answers::Tally;
+use host::book::bytes_of;
 use host::calls::lender::{Lender, Lending, Part, Raw};
 use host::calls::{Answer, Argument, Call, Left, Made, CALLS};
 use host::ffi::lent::Edge;
@@ -35,6 +36,11 @@ fn resized(argument: &Argument, length: usize) -> Argument {
             let mut bytes = bytes.clone();
             bytes.resize(length, 0);
             Argument::Given(bytes)
+        }
+        Argument::Words(words) => {
+            let mut words = words.clone();
+            words.resize(length, 0);
+            Argument::Words(words)
         }
         Argument::Room(_) => Argument::Room(length),
         Argument::Number(_) => Argument::Number(length as u32),
@@ -96,16 +102,19 @@ fn inputs_longer_than_memory() {
     for (call, raw) in archive_calls() {
         let example = (call.example)();
         for (place, argument) in example.iter().enumerate() {
-            let Argument::Given(bytes) = argument else {
-                continue;
+            let (bytes, bits) = match argument {
+                Argument::Given(bytes) => (bytes.clone(), INPUT_BITS),
+                Argument::Words(words) => (bytes_of(words), INPUT_BITS - 1),
+                _ => continue,
             };
+            let size = argument.size();
             let mut too_long = example.clone();
-            too_long[place] = resized(argument, bytes.len() + (1 << PLAIN_BITS));
+            too_long[place] = resized(argument, size + (1 << PLAIN_BITS));
             let wanted = (call.wanted)(&too_long);
             vast.part(0, FOLD).fill(0);
-            vast.part(0, bytes.len()).copy_from_slice(bytes);
-            for bits in PLAIN_BITS..=INPUT_BITS {
-                let len = bytes.len() + (1 << bits);
+            vast.part(0, bytes.len()).copy_from_slice(&bytes);
+            for bits in PLAIN_BITS..=bits {
+                let len = size + (1 << bits);
                 let mut parts = lender.parts(call.takes, &example, Lending::at(Edge::End));
                 parts[place] = Part { at: vast.at(), len };
                 // SAFETY: the parts are memory that is open for as many elements as they say.

@@ -6,11 +6,7 @@ use mathlib.Core.List.{List, _++_}
 use mathlib.Core.Logic.{_≢_}
 use lib.ListN.{length, getD, length-replicate}
 use Rattle.words.specs.Words.{zeros}
-use Rattle.book.specs.Form.{DONE, countClaimed, formOf, bookOf}
-use Rattle.book.proofs.Decoded.{formed, well-formed, claimed-is}
-use Rattle.rules.specs.Facts.{tableSize}
-use Rattle.rules.specs.Growth.{Blank}
-use Rattle.rules.proofs.Growing.{blank-zeros, blank-less}
+use Rattle.book.specs.Form.{DONE, bookOf}
 use Rattle.verdict.specs.declared.Verdict.{Verdict}
 use Rattle.verdict.specs.Judges.{judgement, Judges}
 use Rattle.verdict.specs.Conflicts.{Known}
@@ -21,15 +17,6 @@ use Rattle.writer.specs.Table.{marksOf, Writable}
 use Rattle.writer.proofs.TableMarks.{table-marked}
 use Rattle.compiler.specs.declared.Compiled.{Compiled}
 use Rattle.compiler.specs.Compiles.{Compiles, refused, no-room, done, answer, PLAN-ROOM, sizeOf}
-
--- a table of zeros for any book of good form
-pub table-blank : (bytes : List ℕ) → formOf bytes .number ≡ DONE → Blank (tableSize (bookOf bytes .count)) (zeros 2048)
-table-blank bytes good = blank-less (omega (arith, well-formed (formed bytes good) .few-nodes)) (blank-zeros 2048)
-
--- and a small one for a book of good form that claims few nodes
-pub small-blank : (bytes : List ℕ) {claimed : ℕ} → claimed ≡ countClaimed bytes → claimed ≤ 64 → formOf bytes .number ≡ DONE
-    → Blank (tableSize (bookOf bytes .count)) (zeros 256)
-small-blank bytes is few good = blank-less {least = 256} (omega (arith, is, few, claimed-is (formed bytes good))) (blank-zeros 256)
 
 -- 1 to 6, 19 and 22: what judging says
 pub answered-refused : {bytes plan : List ℕ} {room : ℕ} {v : Verdict} {a : Compiled} → Judges bytes v → v .number ≢ DONE

@@ -2,12 +2,13 @@
 ghost use mathlib.Core.Path.{_≡_};
 ghost use lib.ListN.{length};
 ghost use Rattle.book.specs.Form.{formOf};
-ghost use Rattle.written.specs.Written.{Hands};
+ghost use Rattle.written.specs.Written.{out, Hands};
 ghost use Rattle.moves.specs.Moves.{forwardOf, backOf};
 ghost use Rattle.moves.specs.Look.{partOf};
 ghost use Rattle.compiler.specs.Compiles.{Compiles};
 ghost use Rattle.reader.specs.Reads.{Reads};
-ghost use Rattle.making.specs.Makes.{out, Makes, Places};
+ghost use Rattle.making.specs.Makes.{Makes, Places};
+ghost use Rattle.unread.specs.Unreads.{Unreads};
 use book::Judged;
 use compiler::Compiled;
 use moves::Part;
@@ -22,7 +23,7 @@ pub extern "C" fn drumbook_form(book: &[u8]) -> Judged
     book::form(book)
 }
 
-// Compiles a book, for any bytes and any plan room: done, 1 to 7 or 19; the plan, or zeros.
+// Compiles a book, for any bytes and any plan room: done, 1 to 7, 19 or 22; the plan, or zeros.
 #[no_mangle]
 pub extern "C" fn drumbook_compile(book: &[u8], plan: &mut [u8]) -> Compiled
     ensures { λ r. ⌜ Compiles (now (book .entry)) (length (now (plan .entry))) r (now (plan .exit)) ⌝ }
@@ -85,4 +86,14 @@ pub extern "C" fn drumbook_sheet_place(sheet: &[u8], node: u32) -> Written
     ensures { λ r. ⌜ Places (now (sheet .entry)) node r ⌝ }
 {
     making::place(sheet, node)
+}
+
+// Writes the run of a tree of a book, for any bytes, records and room: done, the book's own refusal, or 23 to 25; the
+// run, or zeros.
+#[no_mangle]
+pub extern "C" fn drumbook_unread(book: &[u8], tree: &[u16], run: &mut [u8]) -> Written
+    ensures { λ r. ⌜ Unreads (now (book .entry)) (now (tree .entry)) (length (now (run .entry)))
+        (out r (now (run .exit))) ⌝ }
+{
+    unread::unread(book, tree, run)
 }

@@ -7,21 +7,18 @@ use Prim.Native.Nat.{ℕ, _+_, _*_, _≤_, _<_}
 use native.Mathlib.Omega.{arith}
 use borrow.Author.Tests.{lt-ltb, le-ltb}
 use lib.ListN.{length, getD}
-use Rattle.written.specs.Written.{written, Out, refusedWith, handed, Hands}
+use Rattle.written.specs.Written.{out, written, Out, refusedWith, handed, Hands}
+use Rattle.written.proofs.Handing.{handed-is}
 use Rattle.written.specs.declared.Written.{Written}
 use Rattle.book.specs.Form.{DONE, NODE}
 use Rattle.sheets.specs.Nodes.{sizes}
 use Rattle.resolving.proofs.Puts.{rules-down, place-is-told}
-use Rattle.making.specs.Makes.{out, madeOf, Makes, placeOf, Places}
+use Rattle.making.specs.Makes.{madeOf, Makes, placeOf, Places}
 use Rattle.making.specs.Bytes.{madeBytes, Writable}
 use Rattle.making.specs.Settled.{SettledAs}
 use Rattle.making.specs.declared.Settled.{Settled}
 use Rattle.making.proofs.Passing.{made-is, can-write}
 use Rattle.making.proofs.Answering.{settled-refused, passed-answers, Passed, settled-done}
-
--- an answer and a buffer that are handed over
-handed-is : {o : Out} {answer : Written} {bytes : List ℕ} → Hands o answer bytes → o ≡ out answer bytes
-handed-is h = λ i. record { answer = sym (h .answer-is) i; bytes = sym (h .bytes-are) i }
 
 module _ {text nodes rows kinds : List ℕ} {s : Settled} (settled : SettledAs text s nodes rows kinds) where
   pub make-refused : (room : ℕ) {answer : Written} {bytes : List ℕ} → s .number ≢ DONE

@@ -13,10 +13,6 @@ use Rattle.sheets.specs.Grammar.{Rule, Sheet, IsSheet}
 use Rattle.sheets.specs.Nodes.{kindNames, sizes, sheetBook, rulesPlaces}
 use Rattle.sheets.specs.Made.{SHEET, TWICE, BIG, KINDLESS, repeats, repeatedAt, tooBig}
 
--- an answer with what the buffer then holds
-abbrev pub out : Written → List ℕ → Out
-out answer bytes = record { answer = answer; bytes = bytes }
-
 -- what a sheet's rules come to: the first of 27, 28 and 29 with its place, or what is made of them
 unfoldable pub judgedBy : {A : Type 0} → (ℕ → ℕ → A) → A → List Rule → A
 judgedBy refused made rules =

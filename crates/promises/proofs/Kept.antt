@@ -1,14 +1,14 @@
 -- The promises are kept: each statement of specs/Promises.antt, for all bytes.
-use Prim.Native.Nat.{ℕ, _≤_, _<_, _^_}
-use mathlib.Core.Path.{_≡_}
+use Prim.Native.Nat.{ℕ, _-_, _≤_, _<_, _^_}
+use mathlib.Core.Path.{_≡_, sym, _∙_}
 use mathlib.Core.Bool.{Bool, true, false}
 use mathlib.Core.Logic.{_↔_, _≢_, _⊎_, Iff·trans}
-use mathlib.Core.List.{List, [], _∷_}
+use mathlib.Core.List.{List, [], _∷_, _++_}
 use lib.ListN.{length, take, getD}
 use Rattle.words.specs.Words.{zeros, Below}
 use Rattle.kinds.proofs.Laws.{same-kinds}
 use Rattle.names.specs.Names.{GoodNames, HOUSE-NAMES, namesOf}
-use Rattle.written.specs.Written.{OUT-ROOM, Out, handed, taken as writtenBytes, Settled}
+use Rattle.written.specs.Written.{OUT-ROOM, Out, refusedWith, handed, handedOver, taken as writtenBytes, Settled}
 use Rattle.written.specs.declared.Written.{Written}
 use Rattle.book.specs.Book.{Book, WellFormed}
 use Rattle.book.specs.Encode.{bookBytes, namedBytes}
@@ -38,14 +38,15 @@ use Rattle.compiler.specs.Compiles.{Compiles, sizeOf}
 use Rattle.compiler.proofs.Alike.{compiles-without-names}
 use Rattle.compiler.proofs.Some.{compiles-some}
 use Rattle.compiler.proofs.Unique.{compiles-unique}
-use Rattle.compiler.proofs.Promise.{passed-passes, passes-exactly}
+use Rattle.compiler.proofs.Promise.{passed, passed-passes, passes-exactly}
 use Rattle.compiler.proofs.ShutOut.{not-all-refused, not-all-passed, not-all-clear}
 use Rattle.reader.specs.declared.Reading.{Reading}
-use Rattle.reader.specs.Numbers.{NO-ROOM}
+use Rattle.reader.specs.Numbers.{NO-ROOM, answered}
 use Rattle.reader.specs.Reads.{Reads}
 use Rattle.reader.proofs.Answers.{reads-unique}
-use Rattle.meaning.specs.Meaning.{tree, NextKinds}
+use Rattle.meaning.specs.Meaning.{tree, Accepts, NextKinds}
 use Rattle.meaning.proofs.Walks.{walks-take}
+use Rattle.verdict.specs.Judges.{judgement, Judges}
 use Rattle.sheets.specs.Grammar.{Rule, Sheet}
 use Rattle.sheets.specs.Meaning.{SheetMeans}
 use Rattle.sheets.specs.Made.{SHEET}
@@ -53,12 +54,17 @@ use Rattle.syntax.proofs.Outcomes.{sheet-once}
 use Rattle.making.specs.Makes.{Makes, Places}
 use Rattle.making.specs.Made.{BookMade, MakeAnswers, NoSheetAt}
 use Rattle.making.proofs.Promise.{makes-some, makes-once, places-some, places-once, make-answers, sheet-refused-at, book-made}
+use Rattle.trees.specs.Trees.{Wrong}
+use Rattle.unread.specs.Unreads.{TREE, RUN-LONG, RUN-ROOM, MOST-EVENTS, Unreads}
+use Rattle.unread.specs.Written.{UnreadAnswers, RunWritten}
+use Rattle.unread.proofs.Promise.{unreads-some, unreads-once, unread-answers, tree-refused-at, run-written, tree-written, tree-long, tree-no-room}
 use Rattle.worked.specs.Worked.{Each, Holds, table}
 use Rattle.worked.proofs.Checked.{worked}
 use Rattle.promises.specs.Promises.{CompileAnswers, ReadAnswers, PassesExactly, ClashesTold, PlanByRules, Enough, ReadsAsMeant, FewRecords, OnBiggerBoards}
 use Rattle.promises.proofs.Answers.{compiled-answers, clashes-told, read-answers, by-rules}
 use Rattle.promises.proofs.More.{by-call, bigger-boards}
 use Rattle.promises.proofs.Meant.{passed-reads, passed-reads-any, passed-records, passed-no-room}
+use Rattle.promises.proofs.RoundTrips.{done-short, done-not-deep, done-not-full, tree-back, tree-read}
 use Rattle.promises.proofs.Readers.{not-constant, not-nodding, not-nodding-trees}
 
 -- Demand 1: the number of a form test is one of 0 to 4 and 19
@@ -334,6 +340,67 @@ module _ (text : List ℕ) {first : Rule} {further : List Rule} (sheet : Sheet t
     -- whatever the slots and the tree room, where the answer is not DEEP or NO ROOM
     pub sheet-reads-any : r .number ≢ DEEP → r .number ≢ NO-ROOM → (r .number ≡ DONE) ↔ SheetMeans first further run
     sheet-reads-any shallow roomy = Iff·trans (demand-3-any compiled passed read short shallow roomy .accepts) (means run)
+
+-- From tree to run: every bytes, records and room have an answer, and one only
+module _ (bytes records : List ℕ) (room : ℕ) where
+  pub unread-answers-some : (o : Out) × Unreads bytes records room o
+  unread-answers-some = unreads-some bytes records room
+
+  pub unread-answer-once : {a o : Out} → Unreads bytes records room a → Unreads bytes records room o → a ≡ o
+  unread-answer-once = unreads-once bytes records room
+
+module _ {bytes records : List ℕ} {room : ℕ} {o : Out} (unreads : Unreads bytes records room o) where
+  -- an answer is the book's own refusal, with its place, or 0, or one of 23 to 25; all bytes behind what is written, and all at a
+  -- refusal, are zeros
+  pub unread-listed : UnreadAnswers bytes room o
+  unread-listed = unread-answers unreads
+
+  -- 23 stands, of a book that passes, at the first record at which no tree begins so, or at their count where more is due, and nowhere else
+  pub unread-23 : (i : ℕ)
+      → ((o .answer .number ≡ TREE) × (o .answer .place ≡ i)) ↔ (Judges bytes (judgement DONE 0 0 0) × Wrong (bookOf bytes) records i)
+  unread-23 = tree-refused-at unreads
+
+  -- the run that is written is the one that the start derives with these records, and there is no other
+  pub unread-writes : o .answer .number ≡ DONE → RunWritten bytes records room o
+  unread-writes = run-written unreads
+
+  -- and the tree of a lawful run of a book that passes has its run written, but for 24, over 65,535 events, and then 25, no room
+  module _ {run : List ℕ} (passes : Judges bytes (judgement DONE 0 0 0)) (whole : Accepts (bookOf bytes) run records) where
+    pub unread-done : length run ≤ MOST-EVENTS → length run ≤ room → o ≡ handedOver run room
+    unread-done few fits = tree-written passes whole few fits unreads
+
+    pub unread-24 : MOST-EVENTS < length run → o ≡ refusedWith RUN-LONG 0 room
+    unread-24 many = tree-long passes whole many unreads
+
+    pub unread-25 : length run ≤ MOST-EVENTS → room < length run → o ≡ refusedWith RUN-ROOM 0 room
+    unread-25 few short = tree-no-room passes whole few short unreads
+
+-- there and back, of a book that compiling is done with
+module _ {bytes : List ℕ} {plan-room : ℕ} {a : Compiled} {plan : List ℕ} (compiled : Compiles bytes plan-room a plan) (is : a .number ≡ DONE)
+    {room : ℕ} {o : Out} where
+  -- reading a run that is written of a tree, with slots and room enough, gives the tree back
+  module _ {records : List ℕ} (unreads : Unreads bytes records room o) (done : o .answer .number ≡ DONE)
+      {held space : List ℕ} {r : Reading} {held-after tree-after : List ℕ}
+      (read : Reads (take (a .size) plan) (writtenBytes o) held space r held-after tree-after) where
+    pub unread-then-read : Enough bytes (writtenBytes o) held space
+        → (r ≡ answered DONE (length (writtenBytes o)) (length records) 0) × (tree-after ≡ records ++ zeros (length space - length records))
+    unread-then-read enough =
+        let w = run-written unreads done in tree-back (demand-3 compiled is read (w .few) enough) (w .accepts)
+
+    -- and with any slots and room, where the answer is neither DEEP nor NO ROOM
+    pub unread-then-read-any : r .number ≢ DEEP → r .number ≢ NO-ROOM
+        → (r ≡ answered DONE (length (writtenBytes o)) (length records) 0) × (tree-after ≡ records ++ zeros (length space - length records))
+    unread-then-read-any shallow roomy =
+        let w = run-written unreads done in tree-back (demand-3-any compiled is read (w .few) shallow roomy) (w .accepts)
+
+  -- the records of a run that is read give the run back, with room for it
+  pub read-then-unread : {run held space : List ℕ} {r : Reading} {held-after tree-after : List ℕ}
+      → Reads (take (a .size) plan) run held space r held-after tree-after → r .number ≡ DONE
+      → Unreads bytes (take (r .records) tree-after) room o → length run ≤ room → o ≡ handedOver run room
+  read-then-unread {run} {held} {space} {r} read accepted unreads fits =
+      let short = by-call (λ r t. r .number ≡ DONE → length run ≤ 65535) read (done-short _ run (length held) (length space)) accepted in
+      let meant = demand-3-any compiled is read short (λ deep. done-not-deep (sym accepted ∙ deep)) (λ full. done-not-full (sym accepted ∙ full)) in
+      tree-written (passed compiled is .judges) (tree-read meant accepted) short fits unreads
 
 -- Demand 2 shuts out a compiler that refuses all books, one that passes all, and one that writes no plan
 module _ (answers : List ℕ → ℕ → Compiled) (plans : List ℕ → ℕ → List ℕ)

@@ -6,3 +6,4 @@ mod Meant
 mod More
 mod Outcomes
 mod Readers
+mod RoundTrips

@@ -9,6 +9,5 @@ pub mod SheetsRead
 pub mod UnderWay
 pub mod ReadSheets
 pub mod Completed
-pub mod Beginnings
 pub mod WrongPlaces
 pub mod Outcomes

@@ -11,7 +11,7 @@ use Rattle.sheets.specs.Grammar.{Rule, Sheet, IsSheet}
 use Rattle.syntax.specs.Machine.{Outcome, sheet, wrong, readSheet}
 use Rattle.syntax.proofs.SheetsRead.{sheet-is-read}
 use Rattle.syntax.proofs.ReadSheets.{read-is-a-sheet}
-use Rattle.syntax.proofs.Beginnings.{parts-once, parts-not-in, parts-not-lacks}
+use Rattle.words.proofs.Beginnings.{parts-once, parts-not-in, parts-not-lacks}
 use Rattle.syntax.proofs.WrongPlaces.{wrong-parts, wrong-lacks}
 
 -- a sheet has one list of rules

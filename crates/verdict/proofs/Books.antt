@@ -1,16 +1,28 @@
--- A book of good form, as the functions that judge it read it from its bytes.
+-- A book of good form, as the functions that judge it read it from its bytes, and tables for its facts.
 use Prim.Native.Nat.{ℕ, _≤_, _<_}
 use native.Mathlib.Omega.{arith}
 use mathlib.Core.Path.{_≡_, ap, subst}
 use mathlib.Core.List.{List}
 use lib.ListN.{length}
+use Rattle.words.specs.Words.{zeros}
 use Rattle.book.specs.declared.Node.{Node}
 use Rattle.book.specs.Book.{WellFormed, Proper, fail-is, empty-is, token-is, either-is, then-is, tagged-is, ref-is}
 use Rattle.book.specs.Decode.{nodes, GoodNodes}
-use Rattle.book.specs.Form.{nodesAt, bookOf}
-use Rattle.book.proofs.Decoded.{Formed, formed, well-formed}
+use Rattle.book.specs.Form.{DONE, countClaimed, nodesAt, formOf, bookOf}
+use Rattle.book.proofs.Decoded.{Formed, formed, well-formed, claimed-is}
 use Rattle.rules.specs.Facts.{tableSize, Facts}
+use Rattle.rules.specs.Growth.{Blank}
+use Rattle.rules.proofs.Growing.{blank-zeros, blank-less}
 use Rattle.verdict.specs.Conflicts.{GoodBook, Known}
+
+-- a table of zeros for any book of good form
+pub table-blank : (bytes : List ℕ) → formOf bytes .number ≡ DONE → Blank (tableSize (bookOf bytes .count)) (zeros 2048)
+table-blank bytes good = blank-less (omega (arith, well-formed (formed bytes good) .few-nodes)) (blank-zeros 2048)
+
+-- and a small one for a book of good form that claims few nodes
+pub small-blank : (bytes : List ℕ) {claimed : ℕ} → claimed ≡ countClaimed bytes → claimed ≤ 64 → formOf bytes .number ≡ DONE
+    → Blank (tableSize (bookOf bytes .count)) (zeros 256)
+small-blank bytes is few good = blank-less {least = 256} (omega (arith, is, few, claimed-is (formed bytes good))) (blank-zeros 256)
 
 -- nodes that are proper for fewer kinds are proper for more
 proper-wider : {kinds more count own : ℕ} {x : Node} → kinds ≤ more → Proper kinds count own x → Proper more count own x

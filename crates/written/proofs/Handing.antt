@@ -10,7 +10,7 @@ use lib.Dec.{leb}
 use lib.ListN.{length, length-append, length-replicate}
 use lib.Seq.{take-at, drop-at}
 use Rattle.words.specs.Words.{zeros}
-use Rattle.written.specs.Written.{OUT-ROOM, Out, refusedWith, handedOver, handed, taken, Hands, Settled}
+use Rattle.written.specs.Written.{OUT-ROOM, Out, out, refusedWith, handedOver, handed, taken, Hands, Settled}
 use Rattle.written.specs.declared.Written.{Written}
 
 -- a cleared buffer is as long as it was, and is zeros
@@ -52,6 +52,10 @@ hands-as {out} {other} is h =
       answer-is = h .answer-is ∙ sym (ap (λ (o : Out). o .answer) is);
       bytes-are = h .bytes-are ∙ sym (ap (λ (o : Out). o .bytes) is);
     }
+
+-- and what it comes to is that answer with that buffer
+pub handed-is : {o : Out} {answer : Written} {bytes : List ℕ} → Hands o answer bytes → o ≡ out answer bytes
+handed-is h = λ i. record { answer = sym (h .answer-is) i; bytes = sym (h .bytes-are) i }
 
 -- a refusal, and bytes that are handed over, leave the buffer as it should be
 pub refused-settles : (number place room : ℕ) → Settled room (refusedWith number place room)

@@ -22,6 +22,9 @@ pub record Out : Type 0 where
   pub answer : Written
   pub bytes : List ℕ
 
+abbrev pub out : Written → List ℕ → Out
+out answer bytes = record { answer = answer; bytes = bytes }
+
 -- a refusal: size 0, and a buffer of zeros
 abbrev pub refusedWith : ℕ → ℕ → ℕ → Out
 refusedWith number place room = record { answer = written number 0 place; bytes = zeros room }

@@ -12,3 +12,4 @@ pub mod runs;
 pub mod shapes;
 pub mod sheets;
 pub mod small;
+pub mod trees;

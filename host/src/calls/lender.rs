@@ -2,6 +2,7 @@
 
 use super::sorts::{Sort, Way};
 use super::{Answer, Argument, Left};
+use crate::book::bytes_of;
 use crate::ffi::lent::{Edge, Lent, Sealed};
 use crate::program::Delivery;
 use std::collections::HashMap;
@@ -105,6 +106,7 @@ impl Lender {
             .entry(sort.name)
             .or_insert_with(|| match sort.way {
                 Way::Read(_) => Region::Sealed(Sealed::new(sort.most)),
+                Way::ReadWords => Region::Sealed(Sealed::new(2 * sort.most)),
                 Way::WriteBytes => Region::Bytes(Lent::new(sort.most)),
                 Way::WriteWords => Region::Words(Lent::new(sort.most)),
                 Way::WriteSlots => Region::Slots(Lent::new(sort.most)),
@@ -120,6 +122,9 @@ impl Region {
         let at = match (&mut *self, argument) {
             (Region::Sealed(sealed), Argument::Given(bytes)) => {
                 sealed.put(bytes, edge).as_ptr().cast_mut()
+            }
+            (Region::Sealed(sealed), Argument::Words(words)) => {
+                sealed.put(&bytes_of(words), edge).as_ptr().cast_mut()
             }
             (Region::Bytes(lent), &Argument::Room(room)) => {
                 lent.lend(garbage, room, edge).as_mut_ptr()

@@ -10,6 +10,7 @@ pub mod name;
 pub mod read;
 pub mod sheet;
 pub mod sorts;
+pub mod unread;
 
 use crate::answers::{Compiled, Reading};
 use crate::books::random::Random;
@@ -24,7 +25,7 @@ pub type Compile = fn(&[u8], &mut [u8]) -> Compiled;
 pub type Read = fn(&[u8], &[u8], &mut [u32], &mut [u16]) -> Reading;
 
 /// All calls; a call's place here is its number.
-pub static CALLS: [&Call; 9] = [
+pub static CALLS: [&Call; 10] = [
     &form::FORM,
     &compile::COMPILE,
     &read::READ,
@@ -33,6 +34,7 @@ pub static CALLS: [&Call; 9] = [
     &name::NAME,
     &sheet::MAKE,
     &sheet::PLACE,
+    &unread::UNREAD,
     &listing::LISTING,
 ];
 
@@ -110,6 +112,8 @@ impl PartialEq for Call {
 pub enum Argument {
     /// Bytes that it may only read.
     Given(Vec<u8>),
+    /// 16-bit numbers that it may only read.
+    Words(Vec<u16>),
     /// A buffer of so many elements that it is to write.
     Room(usize),
     /// A number.
@@ -122,6 +126,14 @@ impl Argument {
         match self {
             Argument::Given(bytes) => bytes,
             _ => panic!("no bytes where bytes are due"),
+        }
+    }
+
+    /// The 16-bit numbers that are given.
+    pub fn words(&self) -> &[u16] {
+        match self {
+            Argument::Words(words) => words,
+            _ => panic!("no words where words are due"),
         }
     }
 
@@ -145,6 +157,7 @@ impl Argument {
     pub fn size(&self) -> usize {
         match self {
             Argument::Given(bytes) => bytes.len(),
+            Argument::Words(words) => words.len(),
             Argument::Room(room) => *room,
             Argument::Number(number) => *number as usize,
         }

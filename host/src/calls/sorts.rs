@@ -16,6 +16,8 @@ pub struct Sort {
 pub enum Way {
     /// Bytes to be read, with the way to smaller ones.
     Read(fn(&[u8]) -> Smaller<Vec<u8>>),
+    /// 16-bit numbers to be read.
+    ReadWords,
     /// Bytes to be written.
     WriteBytes,
     /// 16-bit numbers to be written.
@@ -47,6 +49,20 @@ pub static PLAN: Sort = Sort {
 pub static RUN: Sort = Sort {
     name: "run",
     way: Way::Read(smaller_bytes),
+    most: MOST,
+};
+
+/// The records of a tree.
+pub static TREE_RECORDS: Sort = Sort {
+    name: "tree",
+    way: Way::ReadWords,
+    most: MOST,
+};
+
+/// The buffer that a run is written to.
+pub static RUN_BUFFER: Sort = Sort {
+    name: "run buffer",
+    way: Way::WriteBytes,
     most: MOST,
 };
 
@@ -120,6 +136,7 @@ impl Sort {
             (Way::Read(smaller), Argument::Given(bytes)) => {
                 Box::new(smaller(bytes).map(Argument::Given))
             }
+            (_, Argument::Words(words)) => Box::new(smaller_words(words).map(Argument::Words)),
             (_, Argument::Room(room)) => Box::new(smaller_numbers(*room).map(Argument::Room)),
             (_, Argument::Number(number)) => Box::new(
                 smaller_numbers(*number as usize).map(|less| Argument::Number(less as u32)),

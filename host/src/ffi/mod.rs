@@ -6,4 +6,5 @@ pub mod lent;
 pub mod moves;
 pub mod read;
 pub mod sheet;
+pub mod unread;
 pub mod vast;

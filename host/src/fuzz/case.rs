@@ -1,5 +1,6 @@
 //! A call with its arguments, made and compared.
 
+use crate::book::bytes_of;
 use crate::calls::lender::{Lender, Lending};
 use crate::calls::{Answer, Argument, Call};
 use std::fmt::{Debug, Display, Formatter, Result};
@@ -47,6 +48,7 @@ impl Display for Case {
         for (sort, argument) in self.call.takes.iter().zip(&self.arguments) {
             match argument {
                 Argument::Given(bytes) => write_bytes(f, sort.name, bytes)?,
+                Argument::Words(words) => write_bytes(f, sort.name, &bytes_of(words))?,
                 Argument::Room(room) => writeln!(f, "  {} of {room}", sort.name)?,
                 Argument::Number(number) => writeln!(f, "  {} {number}", sort.name)?,
             }

@@ -1,6 +1,6 @@
 -- `compiler::compile` meets its contract: the table of facts is blank and long enough for the book.
 use borrow.Author.Needs.{needs}
-use Rattle.compiler.proofs.Answers.{table-blank, small-blank}
+use Rattle.verdict.proofs.Books.{table-blank, small-blank}
 use Rattle.compiler.proofs.compile.Statement.{statement}
 use Rattle.compiler.proofs.compile.Tie as tie
 

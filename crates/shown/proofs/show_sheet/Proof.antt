@@ -7,7 +7,8 @@ use denote.Ref.{now}
 use lib.ListN.{length}
 use lib.Seq.{length-take-le}
 use Rattle.book.specs.Form.{DONE}
-use Rattle.making.specs.Makes.{out, Makes}
+use Rattle.written.specs.Written.{out}
+use Rattle.making.specs.Makes.{Makes}
 use Rattle.listed.specs.Listing.{longestBook}
 use Rattle.prints.proofs.Laws.{adds-whole}
 use Rattle.shown.specs.Shown.{too-long, sheet-refused, book-said}

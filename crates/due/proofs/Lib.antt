@@ -1,0 +1,5 @@
+pub mod Below
+pub mod Found
+pub mod Looking
+pub mod Inside
+pub mod Powers

@@ -1,0 +1,5 @@
+mod Settling
+mod UnderWay
+mod Calls
+mod Answered
+pub mod Promise
