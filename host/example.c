@@ -1,7 +1,7 @@
 /*
- * Asks how long the plan of the rinse book with names is and compiles it; reads a lawful run, prints its tree and
- * writes its run back; says why others are refused, and which runs are accepted at all; and in which stage runs of a
- * book with stages stop. Kinds are told by their names.
+ * Asks how long the plan of the rinse book with names is and compiles it; asks how many slots its runs need, and lends
+ * as many; reads a lawful run, prints its tree and writes its run back; says why others are refused, and which runs are
+ * accepted at all; and in which stage runs of a book with stages stop. Kinds are told by their names.
  */
 #include <stdio.h>
 
@@ -11,6 +11,9 @@
 #include "words.h"
 
 enum { SLOTS = 16, ROOM = 64 };
+
+/* How many of the controller's slots are lent: as many as the book's runs need. */
+static uint32_t slots;
 
 /* Prints a kind: its name in the book, or its number where it has none. */
 static void print_kind(unsigned kind)
@@ -91,7 +94,7 @@ static uint32_t show(const uint8_t *plan, size_t size, const uint8_t *run, size_
 {
     uint32_t held[SLOTS];
     uint16_t tree[ROOM];
-    drumbook_reading reading = drumbook_read(plan, size, run, length, held, SLOTS, tree, ROOM);
+    drumbook_reading reading = drumbook_read(plan, size, run, length, held, slots, tree, ROOM);
     print_run(run, length);
     if (reading.number == DRUMBOOK_DONE) {
         printf(": accepted, %u records\n", (unsigned)reading.records);
@@ -113,7 +116,7 @@ static uint32_t plan_size(const uint8_t *book, size_t length)
 static uint32_t records(const uint8_t *plan, size_t size, const uint8_t *run, size_t length)
 {
     uint32_t held[SLOTS];
-    drumbook_reading reading = drumbook_read(plan, size, run, length, held, SLOTS, NULL, 0);
+    drumbook_reading reading = drumbook_read(plan, size, run, length, held, slots, NULL, 0);
     return reading.number == DRUMBOOK_NO_ROOM ? reading.records : 0;
 }
 
@@ -138,6 +141,11 @@ int main(void)
            (unsigned)compiled.size);
     if (compiled.number != DRUMBOOK_DONE)
         return 1;
+    drumbook_depth depth = drumbook_profile(named_rinse, sizeof named_rinse, SLOTS);
+    printf("a controller of %d slots: %s, %u needed\n", SLOTS, words(depth.number), (unsigned)depth.held);
+    if (depth.number != DRUMBOOK_DONE)
+        return 1;
+    slots = depth.held;
     uint32_t accepted = show(plan, compiled.size, lawful, sizeof lawful);
     uint32_t refused = show(plan, compiled.size, unlawful, sizeof unlawful);
     uint32_t ended = show(plan, compiled.size, cut_off, sizeof cut_off);

@@ -57,6 +57,22 @@ static drumbook_written (*volatile sheet_call)(const uint8_t *, size_t, uint8_t 
 static drumbook_written (*volatile place_call)(const uint8_t *, size_t, uint32_t);
 static drumbook_written (*volatile unread_call)(const uint8_t *, size_t, const uint16_t *, size_t, uint8_t *, size_t);
 
+static drumbook_depth (*volatile greatest_call)(const uint8_t *, size_t);
+static drumbook_depth (*volatile profile_call)(const uint8_t *, size_t, uint32_t);
+
+/* Measures nothing, and takes no book. */
+static drumbook_depth no_greatest(const uint8_t *book, size_t book_len)
+{
+    (void)book, (void)book_len;
+    return (drumbook_depth){0, 0, 0};
+}
+
+static drumbook_depth no_profile(const uint8_t *book, size_t book_len, uint32_t slots)
+{
+    (void)book, (void)book_len, (void)slots;
+    return (drumbook_depth){0, 0, 0};
+}
+
 /* Makes nothing of a sheet. */
 static drumbook_written no_sheet(const uint8_t *sheet, size_t sheet_len, uint8_t *to, size_t to_len)
 {
@@ -169,6 +185,17 @@ static uint32_t unreads(const input *given)
     return unread_call(given->bytes, given->length, records, record_count, moved, sizeof moved).number;
 }
 
+/* Asks for the greatest number of parts held, and for a profile of 64 slots. */
+static uint32_t greatest(const input *given)
+{
+    return greatest_call(given->bytes, given->length).number;
+}
+
+static uint32_t profiles(const input *given)
+{
+    return profile_call(given->bytes, given->length, SLOTS).number;
+}
+
 /* Makes the current call. */
 static void make(void)
 {
@@ -204,11 +231,13 @@ static size_t taken(void)
     form_call = drumbook_form, compile_call = drumbook_compile, read_call = drumbook_read;
     forward_call = drumbook_forward, back_call = drumbook_back, name_call = drumbook_name;
     sheet_call = drumbook_sheet, place_call = drumbook_sheet_place, unread_call = drumbook_unread;
+    greatest_call = drumbook_greatest, profile_call = drumbook_profile;
     make();
     size_t all = most_written();
     form_call = no_form, compile_call = no_compile, read_call = no_read;
     forward_call = no_move, back_call = no_move, name_call = no_name;
     sheet_call = no_sheet, place_call = no_place, unread_call = no_unread;
+    greatest_call = no_greatest, profile_call = no_profile;
     uint32_t number = answered;
     size_t way = most_written();
     answered = number;
@@ -299,6 +328,10 @@ int main(void)
         {"sheet, no bytes", sheets, {NULL, 0, NULL, 0}, DRUMBOOK_SHEET, 48000},
         {"sheet, 512 nodes, 32 deep", sheets, {(uint8_t *)sheet, sheet_size, NULL, 0}, DRUMBOOK_DONE, 48000},
         {"sheet place, the same", places, {(uint8_t *)sheet, sheet_size, NULL, 0}, DRUMBOOK_DONE, 48000},
+        {"greatest, no bytes", greatest, {NULL, 0, NULL, 0}, DRUMBOOK_LENGTH, 20000},
+        {"greatest, the largest book", greatest, {large, sizeof large, NULL, 0}, DRUMBOOK_DONE, 20000},
+        {"profile, the rinse book", profiles, {rinse, sizeof rinse, NULL, 0}, DRUMBOOK_DONE, 20000},
+        {"profile, the largest book", profiles, {large, sizeof large, NULL, 0}, DRUMBOOK_DONE, 20000},
     };
     int failed = 0;
     for (size_t i = 0; i < sizeof rows / sizeof *rows; i++) {

@@ -37,6 +37,9 @@ static inline const char *words(uint32_t number)
         [27] = "TWICE: a rule's name comes again",
         [28] = "BIG: over 512 nodes or 64 kinds",
         [29] = "KINDLESS: no event kind",
+        [30] = "UNBOUNDED: no number of slots is enough",
+        [31] = "DEEPER: the controller has too few slots",
+        [32] = "SLOTS: the slot count is not 1 to 64",
     };
     return number < sizeof said / sizeof *said && said[number] ? said[number] : "no such answer";
 }

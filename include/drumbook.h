@@ -72,7 +72,10 @@ enum {
                                  where more is due */
     DRUMBOOK_TWICE = 27,      /* a rule's name comes again; place: where it first does */
     DRUMBOOK_BIG = 28,        /* the sheet's book would have over 512 nodes or 64 kinds */
-    DRUMBOOK_KINDLESS = 29    /* the sheet has no event kind at all */
+    DRUMBOOK_KINDLESS = 29,   /* the sheet has no event kind at all */
+    DRUMBOOK_UNBOUNDED = 30,  /* no number of slots is enough for all lawful runs of the book */
+    DRUMBOOK_DEEPER = 31,     /* the book needs more slots than the controller has; place: how many it needs */
+    DRUMBOOK_SLOTS = 32       /* the controller's slot count is not 1 to 64 */
 };
 
 enum {
@@ -198,6 +201,27 @@ drumbook_written drumbook_sheet_place(const uint8_t *sheet, size_t sheet_len, ui
  */
 drumbook_written drumbook_unread(const uint8_t *book, size_t book_len, const uint16_t *tree, size_t tree_len,
                                  uint8_t *run, size_t run_len);
+
+/* What is answered of the parts that readings by a book's plan hold at once. */
+typedef struct {
+    uint32_t number; /* DRUMBOOK_DONE, or the first that holds of 32, then 1 to 4, 19, 22, 5 and 6, then 30, then 31 */
+    uint32_t place;  /* what compiling answers as the place of 1 to 6, 19 and 22; with 31 the number of slots needed */
+    uint32_t held;   /* with DRUMBOOK_DONE the greatest number of parts ever held at once, otherwise 0 */
+} drumbook_depth;
+
+/*
+ * The greatest number of parts that readings by a book's plan ever hold at once, over all beginnings of lawful runs of
+ * any length, the start before the first event included: so at least 1. With that many slots no reading of the book's
+ * plan is ever DRUMBOOK_DEEP, and some beginning, perhaps one longer than a reading takes, needs as many.
+ * DRUMBOOK_UNBOUNDED where there is no greatest. Takes some 19 KB of stack, and no other memory.
+ */
+drumbook_depth drumbook_greatest(const uint8_t *book, size_t book_len);
+
+/*
+ * Whether a controller with so many holding slots, 1 to 64, takes a book: exactly if the number of drumbook_greatest
+ * exists and is at most the slots. Answers DRUMBOOK_SLOTS before all else.
+ */
+drumbook_depth drumbook_profile(const uint8_t *book, size_t book_len, uint32_t slots);
 
 #ifdef __cplusplus
 }

@@ -28,6 +28,9 @@ pub const SHEET: u32 = 26;
 pub const TWICE: u32 = 27;
 pub const BIG: u32 = 28;
 pub const KINDLESS: u32 = 29;
+pub const UNBOUNDED: u32 = 30;
+pub const DEEPER: u32 = 31;
+pub const SLOTS: u32 = 32;
 
 /// Stands beside the answer numbers for the listing program's message that its input is too long.
 pub const INPUT_TOO_LONG: u32 = 62;
@@ -96,6 +99,15 @@ pub struct Part {
     pub from: u32,
     pub offset: u32,
     pub size: u32,
+}
+
+/// The answer on the parts that a book's readings hold.
+#[repr(C)]
+#[derive(Clone, Copy, Debug, PartialEq, Eq)]
+pub struct Depth {
+    pub number: u32,
+    pub place: u32,
+    pub held: u32,
 }
 
 /// How often each answer number was given.

@@ -5,6 +5,7 @@ pub mod book;
 pub mod books;
 pub mod calls;
 pub mod compile;
+pub mod depth;
 pub mod ffi;
 pub mod form;
 pub mod fuzz;
@@ -62,6 +63,9 @@ mod tests {
             ("TWICE", TWICE),
             ("BIG", BIG),
             ("KINDLESS", KINDLESS),
+            ("UNBOUNDED", UNBOUNDED),
+            ("DEEPER", DEEPER),
+            ("SLOTS", SLOTS),
         ];
         for (name, number) in later {
             assert_eq!(named(name), number, "{name}");

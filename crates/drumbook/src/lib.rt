@@ -9,9 +9,11 @@ ghost use Rattle.compiler.specs.Compiles.{Compiles};
 ghost use Rattle.reader.specs.Reads.{Reads};
 ghost use Rattle.making.specs.Makes.{Makes, Places};
 ghost use Rattle.unread.specs.Unreads.{Unreads};
+ghost use Rattle.profile.specs.Profiles.{Measures, Profiles};
 use book::Judged;
 use compiler::Compiled;
 use moves::Part;
+use profile::Depth;
 use reader::Reading;
 use written::Written;
 
@@ -96,4 +98,20 @@ pub extern "C" fn drumbook_unread(book: &[u8], tree: &[u16], run: &mut [u8]) -> 
         (out r (now (run .exit))) ⌝ }
 {
     unread::unread(book, tree, run)
+}
+
+// The greatest number of parts that readings by a book ever hold at once, for any bytes: done, 1 to 6, 19, 22 or 30.
+#[no_mangle]
+pub extern "C" fn drumbook_greatest(book: &[u8]) -> Depth
+    ensures { λ r. ⌜ Measures (now (book .entry)) r ⌝ }
+{
+    profile::greatest(book)
+}
+
+// Whether a controller of so many slots takes a book, for any bytes and any slots: done, 32, 1 to 6, 19, 22, 30 or 31.
+#[no_mangle]
+pub extern "C" fn drumbook_profile(book: &[u8], slots: u32) -> Depth
+    ensures { λ r. ⌜ Profiles (now (book .entry)) slots r ⌝ }
+{
+    profile::profile(book, slots)
 }

@@ -26,11 +26,11 @@ module _ {node : ℕ → Node} where
   held-nothing = elim [ ]
 
   -- what should not follow a node should not follow another that stands apart
-  apart-as : {top low : Node} {held : List ℕ} → ((k : ℕ) → Snf node low k → Snf node top k) → Apart node top held → Apart node low held
+  pub apart-as : {top low : Node} {held : List ℕ} → ((k : ℕ) → Snf node low k → Snf node top k) → Apart node top held → Apart node low held
   apart-as f a = record { none = λ k zs ps s h. a .none k zs ps (f k s) h }
 
   -- the left of a then stands apart from its right, held, and the parts under it
-  apart-left : {l r : ℕ} {held : List ℕ} → (Conflict node (Then l r) → ⊥) → Apart node (Then l r) held → Apart node (node l) (r ∷ held)
+  pub apart-left : {l r : ℕ} {held : List ℕ} → (Conflict node (Then l r) → ⊥) → Apart node (Then l r) held → Apart node (node l) (r ∷ held)
   apart-left {l} {r} {held} clear a = record { none = λ k zs ps s h. go k zs ps s h }
     where
       go : (k : ℕ) (zs ps : List ℕ) → Snf node (node l) k → Held node (r ∷ held) (k ∷ zs) ps → ⊥

@@ -1,5 +1,6 @@
 -- The promises are kept: each statement of specs/Promises.antt, for all bytes.
 use Prim.Native.Nat.{ℕ, _-_, _≤_, _<_, _^_}
+use native.Mathlib.Nat.{le-trans}
 use mathlib.Core.Path.{_≡_, sym, _∙_}
 use mathlib.Core.Bool.{Bool, true, false}
 use mathlib.Core.Logic.{_↔_, _≢_, _⊎_, Iff·trans}
@@ -28,7 +29,7 @@ use Rattle.grammar.specs.Passing.{Fruitful, Passes}
 use Rattle.grammar.specs.Derivations.{Derives, Lawful, Extends}
 use Rattle.grammar.proofs.Facts.{productive-iff, nullable-iff, first-iff, snf-extends}
 use Rattle.grammar.proofs.Unique.{derivation-unique, snf-iff}
-use Rattle.running.specs.Running.{Plan, DEEP, unlimited, taken, walk, event, stopped, reading}
+use Rattle.running.specs.Running.{Plan, DEEP, withSlots, unlimited, taken, refused, walk, event, stopped, reading}
 use Rattle.running.specs.Stages.{Part, stagedEvent, stagedReading, nodesOf, bareStep, bareAnswer, AllInStage}
 use Rattle.running.proofs.Stages.{event-bare, reading-bare}
 use Rattle.running.proofs.InStage.{stopped-in-stage}
@@ -58,13 +59,20 @@ use Rattle.trees.specs.Trees.{Wrong}
 use Rattle.unread.specs.Unreads.{TREE, RUN-LONG, RUN-ROOM, MOST-EVENTS, Unreads}
 use Rattle.unread.specs.Written.{UnreadAnswers, RunWritten}
 use Rattle.unread.proofs.Promise.{unreads-some, unreads-once, unread-answers, tree-refused-at, run-written, tree-written, tree-long, tree-no-room}
+use Rattle.depths.specs.Depths.{After}
+use Rattle.profile.specs.declared.Depth.{Depth}
+use Rattle.profile.specs.Profiles.{Measures, Profiles}
+use Rattle.profile.proofs.Unique.{measures-unique, profiles-unique}
+use Rattle.profile.proofs.Some.{measures-some, profiles-some}
 use Rattle.worked.specs.Worked.{Each, Holds, table}
 use Rattle.worked.proofs.Checked.{worked}
 use Rattle.promises.specs.Promises.{CompileAnswers, ReadAnswers, PassesExactly, ClashesTold, PlanByRules, Enough, ReadsAsMeant, FewRecords, OnBiggerBoards}
+use Rattle.promises.specs.Promises.{PartsMeasured, ProfileSays}
 use Rattle.promises.proofs.Answers.{compiled-answers, clashes-told, read-answers, by-rules}
 use Rattle.promises.proofs.More.{by-call, bigger-boards}
 use Rattle.promises.proofs.Meant.{passed-reads, passed-reads-any, passed-records, passed-no-room}
 use Rattle.promises.proofs.RoundTrips.{done-short, done-not-deep, done-not-full, tree-back, tree-read}
+use Rattle.promises.proofs.Profiled.{parts-measured, profile-says, measured-event, measured-event-shallow, measured-shallow, taken-measured}
 use Rattle.promises.proofs.Readers.{not-constant, not-nodding, not-nodding-trees}
 
 -- Demand 1: the number of a form test is one of 0 to 4 and 19
@@ -401,6 +409,50 @@ module _ {bytes : List ℕ} {plan-room : ℕ} {a : Compiled} {plan : List ℕ} (
       let short = by-call (λ r t. r .number ≡ DONE → length run ≤ 65535) read (done-short _ run (length held) (length space)) accepted in
       let meant = demand-3-any compiled is read short (λ deep. done-not-deep (sym accepted ∙ deep)) (λ full. done-not-full (sym accepted ∙ full)) in
       tree-written (passed compiled is .judges) (tree-read meant accepted) short fits unreads
+
+-- The greatest number of parts held: every call has an answer, one only, and what it says
+pub measuring-answers : (bytes : List ℕ) → (d : Depth) × Measures bytes d
+measuring-answers bytes = measures-some bytes
+
+pub measuring-answers-once : {bytes : List ℕ} {d d′ : Depth} → Measures bytes d → Measures bytes d′ → d ≡ d′
+measuring-answers-once one other = measures-unique one other
+
+pub measuring-says : {bytes : List ℕ} {d : Depth} → Measures bytes d → PartsMeasured bytes d
+measuring-says measures = parts-measured measures
+
+-- and a profile of so many slots
+pub profile-answers : (bytes : List ℕ) (slots : ℕ) → (d : Depth) × Profiles bytes slots d
+profile-answers bytes slots = profiles-some bytes slots
+
+pub profile-answers-once : {bytes : List ℕ} {slots : ℕ} {d d′ : Depth} → Profiles bytes slots d → Profiles bytes slots d′ → d ≡ d′
+profile-answers-once one other = profiles-unique one other
+
+pub profile-takes : {bytes : List ℕ} {slots : ℕ} {d : Depth} → Profiles bytes slots d → ProfileSays bytes slots d
+profile-takes profiles = profile-says profiles
+
+-- with as many slots as the number no reading of the book's plan is DEEP
+module _ {bytes : List ℕ} {room : ℕ} {a : Compiled} {plan : List ℕ} (compiled : Compiles bytes room a plan) (is : a .number ≡ DONE)
+    {run held space : List ℕ} {r : Reading} {held-after tree-after : List ℕ}
+    (read : Reads (take (a .size) plan) run held space r held-after tree-after) where
+  pub measured-never-deep : {d : Depth} → Measures bytes d → d .number ≡ DONE → d .held ≤ length held → r .number ≢ DEEP
+  measured-never-deep measures done enough =
+      by-call (λ r t. r .number ≢ DEEP) read (measured-shallow measures done compiled is run (length held) (length space) enough)
+
+  -- under a profile that takes the book, with the profile's slots
+  pub profile-never-deep : {slots : ℕ} {d : Depth} → Profiles bytes slots d → d .number ≡ DONE → slots ≤ length held → r .number ≢ DEEP
+  profile-never-deep profiles done enough =
+      let (measures, most) = taken-measured profiles done in measured-never-deep measures done (le-trans most enough)
+
+-- and behind a beginning no event lacks a slot: with as many it comes to what it comes to without a limit, which is not DEEP
+module _ {bytes : List ℕ} {slots : ℕ} {d : Depth} (measures : Measures bytes d) (done : d .number ≡ DONE) (enough : d .held ≤ slots)
+    (marks : Marks) (marked : Marked (bookOf bytes .node) marks) {run parts : List ℕ}
+    (behind : After (planFor (bookOf bytes) marks) (bookOf bytes .start ∷ []) run parts) (k : ℕ) where
+  pub measured-events :
+      event (planFor (bookOf bytes) marks) (withSlots slots) k parts ≡ event (planFor (bookOf bytes) marks) unlimited k parts
+  measured-events = measured-event measures done enough marks marked behind k
+
+  pub measured-events-never-deep : event (planFor (bookOf bytes) marks) (withSlots slots) k parts ≡ refused DEEP → ⊥
+  measured-events-never-deep = measured-event-shallow measures done enough marks marked behind k
 
 -- Demand 2 shuts out a compiler that refuses all books, one that passes all, and one that writes no plan
 module _ (answers : List ℕ → ℕ → Compiled) (plans : List ℕ → ℕ → List ℕ)

@@ -7,3 +7,4 @@ mod More
 mod Outcomes
 mod Readers
 mod RoundTrips
+pub mod Profiled

@@ -3,18 +3,20 @@ use Prim.Native.Nat.{ℕ, _+_, _-_, _≤_, _<_}
 use native.Mathlib.Decide.{decLe}
 use native.Mathlib.Omega.{arith}
 use borrow.Author.Tests.{lt-leb}
-use mathlib.Core.Bool.{Bool}
+use lib.Dec.{ltb, leb}
+use mathlib.Core.Bool.{Bool, true, false, cond}
 use mathlib.Core.Path.{_≡_, sym, ap, _∙_}
-use mathlib.Core.List.{List, [], _∷_}
+use mathlib.Core.List.{List, [], _∷_, _++_}
 use mathlib.Core.Logic.{_⊎_, inl, inr, ⊎-elim, _≢_}
-use lib.ListN.{length, take}
+use lib.ListN.{length, take, getD}
 use lib.Seq.{take-at}
+use Rattle.words.specs.Words.{zeros}
 use Rattle.book.specs.Book.{Book, WellFormed}
 use Rattle.book.specs.Form.{DONE, bookOf}
 use Rattle.book.specs.declared.Judged.{Judged}
 use Rattle.grammar.specs.Derivations.{Lawful}
-use Rattle.running.specs.Running.{DEEP, Plan, withSlots, unlimited, Answer, accepted, reading}
-use Rattle.running.specs.Stages.{stagedReading, bareAnswer}
+use Rattle.running.specs.Running.{DEEP, UNEXPECTED, UNKNOWN, Plan, withSlots, unlimited, Answer, AnswerOf, accepted, stopped, reading}
+use Rattle.running.specs.Stages.{Part, stagedReading, bareAnswer}
 use Rattle.running.specs.Cells.{planFor}
 use Rattle.running.proofs.Stages.{reading-bare}
 use Rattle.running.proofs.Agrees.{Agree}
@@ -28,12 +30,14 @@ use Rattle.writer.proofs.PlanDone.{plan-done, plan-agrees, plan-reads}
 use Rattle.compiler.specs.declared.Compiled.{Compiled}
 use Rattle.compiler.specs.Compiles.{Compiles}
 use Rattle.compiler.proofs.Promise.{Passed, passed, passed-passes, passed-size}
-use Rattle.reader.specs.Numbers.{NO-ROOM}
-use Rattle.reader.specs.Reads.{Outcome, acceptedOf, outcomeOf, runOf, readOf}
+use Rattle.reader.specs.Numbers.{LONG, NO-ROOM, answered}
+use Rattle.reader.specs.Reads.{Outcome, outcome, bare, acceptedOf, outcomeOf, runOf, readOf}
 use Rattle.reader.proofs.Answers.{read-told, records-counted}
-use Rattle.reader.proofs.Settles.{read-runs}
+use Rattle.reader.proofs.Settles.{read-runs, read-long}
 use Rattle.meaning.specs.Meaning.{tree, Means, means-accepted, means-refused, means-end, Tells, tells-none, tells-next}
 use Rattle.meaning.proofs.Theorem.{reading-means, reading-tells}
+use Rattle.depths.specs.Depths.{Greatest}
+use Rattle.depths.proofs.Numbers.{reading-enough}
 use Rattle.promises.specs.Promises.{slotsEnough, roomEnough, ReadsAsMeant, FewRecords}
 use Rattle.promises.proofs.More.{slots-more}
 use Rattle.promises.proofs.Outcomes.{reads-as-meant}
@@ -185,3 +189,52 @@ module _ {bytes : List ℕ} {room : ℕ} {a : Compiled} {plan : List ℕ} (compi
       lawful {records = records} (means-accepted {records = written} m) is = (m .derivation, (let same : records ≡ written = cc in same) ∙ m .records-are)
       lawful (means-refused r number-is) is = let never : _≡_ {A = ℕ} 0 1 = cc in absurd (omega arith)
       lawful (means-end m) is = let never : _≡_ {A = ℕ} 0 1 = cc in absurd (omega arith)
+
+-- what a run means is never DEEP
+means-shallow : {b : Book} {run : List ℕ} (p : Plan) (size room : ℕ) (answer : AnswerOf Part) → Means b run (bareAnswer answer)
+    → outcomeOf p size room answer .reading .number ≢ DEEP
+unfolding outcomeOf acceptedOf bareAnswer
+means-shallow p size room (accepted records) m = by-room (leb (length records) room)
+  where
+    by-room : (t : Bool)
+        → cond t (outcome (answered DONE size (length records) 0) (records ++ zeros (room - length records)))
+        (bare room (answered NO-ROOM 0 (length records) 0)) .reading .number
+        ≢ DEEP
+    by-room true e = omega (arith, e)
+    by-room false e = omega (arith, e)
+means-shallow {b} {run} p size room (stopped number place held) (means-refused r number-is) =
+    by-kind (ltb (getD run place 0) (b .kinds)) number-is
+  where
+    by-kind : (t : Bool) → number ≡ cond t UNEXPECTED UNKNOWN → number ≢ DEEP
+    by-kind true is e = omega (arith, is, e)
+    by-kind false is e = omega (arith, is, e)
+means-shallow p size room (stopped number place held) (means-end m) = λ e. omega (arith, e)
+
+-- slots as many as the greatest number of parts ever held are enough for every run
+module _ {bytes : List ℕ} {room : ℕ} {a : Compiled} {plan : List ℕ} (compiled : Compiles bytes room a plan) (is : a .number ≡ DONE)
+    {m : ℕ} (greatest : Greatest (bookOf bytes) m) where
+  pub passed-shallow : (run : List ℕ) (slots tree-room : ℕ) → 0 < slots → m ≤ slots
+      → readOf (take (a .size) plan) run slots tree-room .reading .number ≢ DEEP
+  unfolding known
+  passed-shallow run slots tree-room some enough =
+      elim (decLe (length run) 65535) [
+        | yes short ↦
+            let facts = passed compiled is in
+            let passes = passed-passes compiled is in
+            let written = planOf (planBytes (bookOf bytes) (facts .marks)) in
+            let told : bareAnswer (stagedReading written (withSlots slots) run) ≡ reading (planFor (bookOf bytes) (facts .marks)) unlimited run =
+            reading-bare written (withSlots slots) run
+            ∙ plan-reads (bookOf bytes) (facts .marks) (book-formed compiled is) (withSlots slots) run
+            ∙ reading-enough passes (facts .marks) (facts .marked) greatest enough run in
+            rw (reads-run compiled is run slots tree-room short some)
+            (means-shallow {b = bookOf bytes} {run = run} written (length run) tree-room (stagedReading written (withSlots slots) run)
+            (rw told (reading-means passes (facts .marks) (facts .marked) run)))
+        | no long ↦ λ e. omega (arith, e, ap (λ (o : Outcome). o .reading .number) (too-long (omega arith)))
+      ]
+    where
+      too-long : 65535 < length run → readOf (take (a .size) plan) run slots tree-room ≡ bare tree-room (answered LONG 0 0 0)
+      too-long long =
+          let facts = passed compiled is in
+          let good : planJudged (planBytes (bookOf bytes) (facts .marks)) .number ≡ DONE =
+          ap (λ (j : Judged). j .number) (plan-done (bookOf bytes) (facts .marks) (book-formed compiled is)) in
+          read-long (take (a .size) plan) run slots tree-room (rw (given-plan compiled is) good) long

@@ -20,13 +20,17 @@ use Rattle.running.specs.Stages.{Part, stagedReading, stageOf, nodesOf}
 use Rattle.running.specs.Cells.{Marks, Marked, cellOf}
 use Rattle.plan.specs.Form.{cellAt, planCount, planOf, planJudged}
 use Rattle.writer.specs.Bytes.{planBytes}
-use Rattle.verdict.specs.Judges.{CONFLICT, Clashing, BothNullable}
+use Rattle.verdict.specs.declared.Verdict.{Verdict}
+use Rattle.verdict.specs.Judges.{CONFLICT, Clashing, BothNullable, judgement, Judges}
 use Rattle.compiler.specs.declared.Compiled.{Compiled}
 use Rattle.compiler.specs.Compiles.{sizeOf}
 use Rattle.reader.specs.declared.Reading.{Reading}
 use Rattle.reader.specs.Numbers.{NO-ROOM, answered}
 use Rattle.reader.specs.Reads.{Reads}
 use Rattle.meaning.specs.Meaning.{tree, Refuses, Ends, NextKinds}
+use Rattle.depths.specs.Depths.{Greatest, NoGreatest}
+use Rattle.profile.specs.declared.Depth.{Depth}
+use Rattle.profile.specs.Profiles.{UNBOUNDED, DEEPER, SLOTS, depth}
 
 -- Demand 1, compiling: the answer is one of 0 to 7, 19 or 22, a plan has at most 36,376 bytes, and a refusal leaves the
 -- whole plan buffer zero
@@ -146,3 +150,28 @@ pub record OnBiggerBoards (plan run held tree : List ℕ) (r : Reading) (after :
   -- and DEEP with the same slots
   pub deep : (more tree′ : List ℕ) → length (run ++ more) ≤ 65535 → r .number ≡ DEEP
       → Reads plan (run ++ more) held tree′ r (zeros (length held)) (zeros (length tree′))
+
+-- The greatest number of parts held: what is answered of a book
+pub record PartsMeasured (bytes : List ℕ) (d : Depth) : Type 0 where
+  -- the book's own refusals, by number and place
+  pub own : (v : Verdict) → Judges bytes v → v .number ≢ DONE → d ≡ depth (v .number) (v .place) 0
+  -- of a book that passes the number, exactly if it is the greatest ever held behind beginnings of lawful runs
+  pub number : Judges bytes (judgement DONE 0 0 0) → (m : ℕ) → (d ≡ depth DONE 0 m) ↔ Greatest (bookOf bytes) m
+  -- and 30 exactly if for every number some beginning holds more
+  pub unbounded : Judges bytes (judgement DONE 0 0 0) → (d ≡ depth UNBOUNDED 0 0) ↔ NoGreatest (bookOf bytes)
+
+-- What a profile of so many slots answers of a book
+pub record ProfileSays (bytes : List ℕ) (slots : ℕ) (d : Depth) : Type 0 where
+  -- 32 before all
+  pub outside : (slots < 1) ⊎ (64 < slots) → d ≡ depth SLOTS 0 0
+  -- then the book's own refusals
+  pub own : 1 ≤ slots → slots ≤ 64 → (v : Verdict) → Judges bytes v → v .number ≢ DONE
+      → d ≡ depth (v .number) (v .place) 0
+  -- then 30, and 31 with the number as its place
+  pub unbounded : 1 ≤ slots → slots ≤ 64 → Judges bytes (judgement DONE 0 0 0) → NoGreatest (bookOf bytes)
+      → d ≡ depth UNBOUNDED 0 0
+  pub deeper : 1 ≤ slots → slots ≤ 64 → Judges bytes (judgement DONE 0 0 0) → (m : ℕ) → Greatest (bookOf bytes) m
+      → slots < m → d ≡ depth DEEPER m 0
+  -- it takes a book exactly if the number exists and is at most the slots
+  pub takes : 1 ≤ slots → slots ≤ 64 → Judges bytes (judgement DONE 0 0 0)
+      → (d .number ≡ DONE) ↔ ((m : ℕ) × Greatest (bookOf bytes) m × (m ≤ slots))

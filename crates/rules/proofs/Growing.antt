@@ -155,13 +155,13 @@ module _ {told : Told} {By : ℕ → ℕ → Type 0} where
 
 -- ---- masks
 
-total-set : (list : List ℕ) (i n : ℕ) → i < length list → total (set list i n) + getD list i 0 ≡ total list + n
+pub total-set : (list : List ℕ) (i n : ℕ) → i < length list → total (set list i n) + getD list i 0 ≡ total list + n
 unfolding total
 total-set [] i n h = absurd (omega arith)
 total-set (a ∷ list) zero n h = omega arith
 total-set (a ∷ list) (suc i) n h = omega (arith, total-set list i n (omega arith))
 
-total-bound : (sets : List ℕ) → ((i : ℕ) → getD sets i 0 < 2 ^ 64) → total sets ≤ length sets * 2 ^ 64
+pub total-bound : (sets : List ℕ) → ((i : ℕ) → getD sets i 0 < 2 ^ 64) → total sets ≤ length sets * 2 ^ 64
 unfolding total
 total-bound [] small = omega arith
 total-bound (a ∷ sets) small = omega (arith, total-bound sets (λ i. small (suc i)), small 0)

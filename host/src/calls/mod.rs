@@ -2,6 +2,7 @@
 //! fuzzer makes cases of it; the lender, the tests, the fuzzer and the shrinker go by the table.
 
 pub mod compile;
+pub mod depth;
 pub mod form;
 pub mod lender;
 pub mod listing;
@@ -25,7 +26,7 @@ pub type Compile = fn(&[u8], &mut [u8]) -> Compiled;
 pub type Read = fn(&[u8], &[u8], &mut [u32], &mut [u16]) -> Reading;
 
 /// All calls; a call's place here is its number.
-pub static CALLS: [&Call; 10] = [
+pub static CALLS: [&Call; 12] = [
     &form::FORM,
     &compile::COMPILE,
     &read::READ,
@@ -35,6 +36,8 @@ pub static CALLS: [&Call; 10] = [
     &sheet::MAKE,
     &sheet::PLACE,
     &unread::UNREAD,
+    &depth::GREATEST,
+    &depth::PROFILE,
     &listing::LISTING,
 ];
 

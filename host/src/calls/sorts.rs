@@ -101,6 +101,13 @@ pub static NODE_NUMBER: Sort = Sort {
     most: 0,
 };
 
+/// A controller's slots.
+pub static SLOT_COUNT: Sort = Sort {
+    name: "slot count",
+    way: Way::Number,
+    most: 0,
+};
+
 /// A kind.
 pub static KIND: Sort = Sort {
     name: "kind",

@@ -1,6 +1,7 @@
 //! The proved library's calls as C has them, and memory to lend to it.
 
 pub mod compile;
+pub mod depth;
 pub mod form;
 pub mod lent;
 pub mod moves;

@@ -1,0 +1,1 @@
+// How many parts are held at once: no code.
