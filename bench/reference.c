@@ -20,8 +20,10 @@ enum {
     NODE_BYTES = 6,
     BOOK_SETTINGS = 14,
     BOOK_NODES = 18,
-    PLAN_SETTINGS = 20,
-    PLAN_NODES = 24,
+    PLAN_SETTINGS = 26,
+    PLAN_NODES = 30,
+    PLAN_WORDS = 13, /* of the contents */
+    LONGEST = 65536, /* where lengths are cut */
     EMPTY_RECORD = 32768
 };
 
@@ -253,27 +255,84 @@ static void write_rows(const book *b, const facts *known, uint8_t *row)
 /* The size of a book's plan. */
 static size_t plan_size(const book *b)
 {
-    return PLAN_NODES + NODE_BYTES * b->count + b->count * (b->kinds + 1);
+    return PLAN_NODES + NODE_BYTES * b->count + b->count * (b->kinds + 1) + 2 * b->count;
 }
 
 /* The contents that a plan must have. */
 static void plan_contents(const book *b, uint16_t *words)
 {
     size_t nodes = NODE_BYTES * b->count;
-    uint16_t contents[] = {3, 1, PLAN_SETTINGS, 4, 2, PLAN_NODES, (uint16_t)nodes,
-                           3, (uint16_t)(PLAN_NODES + nodes), (uint16_t)(b->count * (b->kinds + 1))};
+    size_t rows = b->count * (b->kinds + 1);
+    uint16_t contents[PLAN_WORDS] = {4, 1, PLAN_SETTINGS, 4, 2, PLAN_NODES, (uint16_t)nodes,
+                                     3, (uint16_t)(PLAN_NODES + nodes), (uint16_t)rows,
+                                     4, (uint16_t)(PLAN_NODES + nodes + rows),
+                                     (uint16_t)(2 * b->count)};
     memcpy(words, contents, sizeof contents);
+}
+
+/* The smaller of two lengths. */
+static uint32_t smaller(uint32_t one, uint32_t other)
+{
+    return one < other ? one : other;
+}
+
+/* The length of a node by those of its sides. */
+static uint32_t length_of(node x, const uint32_t *lengths)
+{
+    switch (x.form) {
+    case EMPTY:
+        return 0;
+    case TOKEN:
+        return 1;
+    case TAGGED:
+    case REF:
+        return lengths[x.left];
+    case EITHER:
+        return smaller(lengths[x.left], lengths[x.right]);
+    case THEN:
+        return smaller(lengths[x.left] + lengths[x.right], LONGEST);
+    default:
+        return LONGEST;
+    }
+}
+
+/* Lowers the lengths of all nodes, downward or upward; whether any fell. */
+static bool lower_all(const book *b, bool downward, uint32_t *lengths)
+{
+    bool changed = false;
+    for (size_t i = 0; i < b->count; i++) {
+        size_t n = downward ? b->count - 1 - i : i;
+        uint32_t next = length_of(node_at(b, n), lengths);
+        if (next < lengths[n]) {
+            lengths[n] = next;
+            changed = true;
+        }
+    }
+    return changed;
+}
+
+/* Writes what is due for all nodes: the least lengths. */
+static void write_dues(const book *b, uint8_t *due)
+{
+    uint32_t lengths[MOST_NODES];
+    for (size_t n = 0; n < b->count; n++)
+        lengths[n] = LONGEST;
+    for (bool downward = false; lower_all(b, downward, lengths); downward = !downward)
+        ;
+    for (size_t n = 0; n < b->count; n++)
+        put_word(due + 2 * n, (uint16_t)smaller(lengths[n], 65535));
 }
 
 /* Writes a book's plan into zeros. */
 static void write_plan(const book *b, const facts *known, uint8_t *plan)
 {
-    uint16_t contents[10];
+    uint16_t contents[PLAN_WORDS];
     plan_contents(b, contents);
-    for (size_t i = 0; i < 10; i++)
+    for (size_t i = 0; i < PLAN_WORDS; i++)
         put_word(plan + 2 * i, contents[i]);
     memcpy(plan + PLAN_SETTINGS, b->nodes - 4, 4 + NODE_BYTES * b->count);
     write_rows(b, known, plan + PLAN_NODES + NODE_BYTES * b->count);
+    write_dues(b, plan + plan_size(b) - 2 * b->count);
 }
 
 reference_compiled reference_compile(const uint8_t *bytes, size_t len, uint8_t *plan,
@@ -309,18 +368,18 @@ reference_compiled reference_compile(const uint8_t *bytes, size_t len, uint8_t *
 /* Whether a plan's length, contents, settings and nodes are right; fills in its book. */
 static bool plan_form(const uint8_t *plan, size_t len, book *b)
 {
-    uint16_t contents[10];
+    uint16_t contents[PLAN_WORDS];
     if (len < PLAN_NODES)
         return false;
     size_t kinds = word(plan + PLAN_SETTINGS);
-    if (kinds < 1 || kinds > MOST_KINDS || (len - PLAN_NODES) % (NODE_BYTES + kinds + 1) != 0)
+    if (kinds < 1 || kinds > MOST_KINDS || (len - PLAN_NODES) % (NODE_BYTES + kinds + 3) != 0)
         return false;
-    size_t count = (len - PLAN_NODES) / (NODE_BYTES + kinds + 1);
+    size_t count = (len - PLAN_NODES) / (NODE_BYTES + kinds + 3);
     if (count > MOST_NODES)
         return false;
     *b = book_at(plan + PLAN_SETTINGS, count);
     plan_contents(b, contents);
-    return settings_proper(b) && words_are(plan, contents, 10) && improper(b) == b->count;
+    return settings_proper(b) && words_are(plan, contents, PLAN_WORDS) && improper(b) == b->count;
 }
 
 /* Whether a cell is 0 or one of two. */

@@ -81,7 +81,7 @@ enum {
 enum {
     DRUMBOOK_LARGEST_BOOK = 4184,   /* bytes of the longest book, with 512 nodes and 64 names of 16 bytes */
     DRUMBOOK_HOUSE_NAMES = 64,      /* names of a house list */
-    DRUMBOOK_LARGEST_PLAN = 36376,  /* bytes of the longest plan: a buffer that always suffices */
+    DRUMBOOK_LARGEST_PLAN = 37406,  /* bytes of the longest plan: a buffer that always suffices */
     DRUMBOOK_EMPTY_RECORD = 32768   /* added to the node number in the record of a part that takes no event */
 };
 
@@ -108,7 +108,7 @@ typedef struct {
 /*
  * Compiles a book, of either form: names do not change the plan. With DRUMBOOK_DONE the first size bytes of the plan
  * buffer are the plan and the rest is zero; with any other number the whole buffer is zero. A plan buffer of length 0
- * asks for the size alone: a book that passes answers DRUMBOOK_PLAN_ROOM with it. Takes some 17 KB of stack
+ * asks for the size alone: a book that passes answers DRUMBOOK_PLAN_ROOM with it. Takes some 19 KB of stack
  * (docs/MEMORY.md), and no other memory.
  */
 drumbook_compiled drumbook_compile(const uint8_t *book, size_t book_len, uint8_t *plan, size_t plan_len);

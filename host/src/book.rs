@@ -23,10 +23,10 @@ pub const BOOK_SETTINGS: usize = 14;
 pub const BOOK_NODES: usize = 18;
 
 /// Where the settings stand in a plan.
-pub const PLAN_SETTINGS: usize = 20;
+pub const PLAN_SETTINGS: usize = 26;
 
 /// Where the nodes begin in a plan.
-pub const PLAN_NODES: usize = 24;
+pub const PLAN_NODES: usize = 30;
 
 /// Where the settings stand in a book with names.
 pub const NAMED_SETTINGS: usize = 20;
@@ -37,6 +37,9 @@ pub const NAMED_NODES: usize = 24;
 /// The bytes of one node.
 pub const NODE_BYTES: usize = 6;
 
+/// The bytes of what is due for one node.
+pub const DUE_BYTES: usize = 2;
+
 /// The bytes of the longest book without names.
 pub const LONGEST_PLAIN: usize = BOOK_NODES + NODE_BYTES * MOST_NODES;
 
@@ -45,7 +48,7 @@ pub const LONGEST_BOOK: usize =
     NAMED_NODES + NODE_BYTES * MOST_NODES + MOST_KINDS * (1 + LONGEST_NAME);
 
 /// The bytes of the longest plan.
-pub const LONGEST_PLAN: usize = PLAN_NODES + MOST_NODES * (NODE_BYTES + MOST_KINDS + 1);
+pub const LONGEST_PLAN: usize = PLAN_NODES + MOST_NODES * (NODE_BYTES + MOST_KINDS + 1 + DUE_BYTES);
 
 /// A node: its type, left and right.
 #[derive(Clone, Copy, Debug, PartialEq, Eq)]
@@ -96,7 +99,7 @@ impl Book {
     /// The bytes of three sections: contents, settings, nodes, and these bytes.
     pub fn three_sections(&self, third: &[u8]) -> Vec<u8> {
         let nodes_length = (NODE_BYTES * self.nodes.len()) as u16;
-        let third_at = PLAN_NODES as u16 + nodes_length;
+        let third_at = NAMED_NODES as u16 + nodes_length;
         let third_length = third.len() as u16;
         let mut words = vec![3, 1, 20, 4, 2, 24, nodes_length, 3, third_at, third_length];
         words.extend(self.settings_and_nodes());
@@ -105,9 +108,35 @@ impl Book {
         bytes
     }
 
-    /// The bytes of a plan of the book with these rows: contents, settings, nodes, rows.
+    /// The bytes of a plan of the book with these rows, in which nothing is due.
     pub fn plan(&self, rows: &[u8]) -> Vec<u8> {
-        self.three_sections(rows)
+        self.plan_due(rows, &vec![0; self.nodes.len()])
+    }
+
+    /// The bytes of a plan of the book with these rows and dues: contents, settings, nodes, rows, dues.
+    pub fn plan_due(&self, rows: &[u8], dues: &[u16]) -> Vec<u8> {
+        let nodes_length = NODE_BYTES * self.nodes.len();
+        let rows_at = PLAN_NODES + nodes_length;
+        let dues_at = rows_at + rows.len();
+        let dues_length = DUE_BYTES * dues.len();
+        let mut words = vec![4, 1, PLAN_SETTINGS as u16, 4, 2, PLAN_NODES as u16];
+        words.extend(
+            [
+                nodes_length,
+                3,
+                rows_at,
+                rows.len(),
+                4,
+                dues_at,
+                dues_length,
+            ]
+            .map(|n| n as u16),
+        );
+        words.extend(self.settings_and_nodes());
+        let mut bytes = bytes_of(&words);
+        bytes.extend(rows);
+        bytes.extend(bytes_of(dues));
+        bytes
     }
 
     /// The words of the settings and of the nodes, which books and plans share.

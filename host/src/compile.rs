@@ -226,7 +226,32 @@ fn plan_by(book: &Book, facts: &Facts) -> Vec<u8> {
         rows.extend((0..usize::from(book.kinds)).map(|kind| cell(book, facts, own, kind)));
         rows.push(u8::from(facts.nullable[own]));
     }
-    book.plan(&rows)
+    book.plan_due(&rows, &dues(book))
+}
+
+/// What is due for each node: the least length of a run that it derives, at most 65,535, which is also for none.
+pub fn dues(book: &Book) -> Vec<u16> {
+    let lengths = least(book, None, length_by);
+    let held = |length: Option<u64>| length.unwrap_or(u64::MAX).min(u16::MAX.into()) as u16;
+    lengths.into_iter().map(held).collect()
+}
+
+/// The least length of a run that a node derives, from those known so far.
+fn length_by(node: &Node, known: &[Option<u64>]) -> Option<u64> {
+    match node.form {
+        EMPTY => Some(0),
+        TOKEN => Some(1),
+        EITHER => {
+            let sides = [of(known, node.left), of(known, node.right)];
+            sides.into_iter().flatten().min()
+        }
+        THEN => {
+            let (left, right) = (of(known, node.left)?, of(known, node.right)?);
+            Some(left.saturating_add(right))
+        }
+        TAGGED | REF => of(known, node.left),
+        _ => None,
+    }
 }
 
 /// The cell of a node for a kind.

@@ -117,8 +117,9 @@ pub fn taken_apart(plan: &[u8]) -> Option<Plan<'_>> {
     let count = book.nodes.len();
     let row_bytes = count * (usize::from(book.kinds) + 1);
     let nodes_bytes = NODE_BYTES * count;
+    let due_bytes = DUE_BYTES * count;
     let fixed = [
-        3,
+        4,
         1,
         PLAN_SETTINGS,
         4,
@@ -128,10 +129,16 @@ pub fn taken_apart(plan: &[u8]) -> Option<Plan<'_>> {
         3,
         PLAN_NODES + nodes_bytes,
         row_bytes,
+        4,
+        PLAN_NODES + nodes_bytes + row_bytes,
+        due_bytes,
     ];
-    let right =
-        contents.iter().map(|&word| usize::from(word)).eq(fixed) && cells.len() == row_bytes;
-    right.then_some(Plan { book, cells })
+    let right = contents.iter().map(|&word| usize::from(word)).eq(fixed)
+        && cells.len() == row_bytes + due_bytes;
+    right.then(|| Plan {
+        book,
+        cells: &cells[..row_bytes],
+    })
 }
 
 /// The first cell that its node's type never has.

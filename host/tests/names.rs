@@ -165,7 +165,7 @@ fn plans_of_named_books() {
         let book = good_book(&mut random);
         let names = any_names(&mut random, usize::from(book.kinds));
         let room =
-            24 + book.nodes.len() * (NODE_BYTES + usize::from(book.kinds) + 1) - random.below(2);
+            30 + book.nodes.len() * (NODE_BYTES + usize::from(book.kinds) + 3) - random.below(2);
         let named = pair.compare(&compile::given(&book.named_bytes(&names), room));
         let plain = pair.compare(&compile::given(&book.bytes(), room));
         assert!(named == plain, "of {book:?}");

@@ -47,7 +47,7 @@ fn worked_sheets() {
         (
             "r = a b* ;",
             "kind 0 a\nkind 1 b\nnode 0 token a\nnode 1 token b\nnode 2 ref 5\nnode 3 then 1 2\nnode 4 empty\n\
-             node 5 either 3 4\nnode 6 then 0 5\nstart 6\npasses, a plan of 87 bytes\n",
+             node 5 either 3 4\nnode 6 then 0 5\nstart 6\npasses, a plan of 107 bytes\n",
         ),
         (
             "a = b |\n  b c ;\n",

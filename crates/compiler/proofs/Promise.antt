@@ -9,7 +9,7 @@ use lib.ListN.{length, getD, length-append, length-replicate, List·getD-append}
 use mathlib.Core.Path.{_≡_, refl, _∙_, ap}
 use mathlib.Core.Logic.{_↔_, _≢_, _⊎_, inl, inr, ⊎-elim, Iff·trans}
 use mathlib.Core.List.{List, _++_}
-use Rattle.words.specs.Words.{zeros}
+use Rattle.words.specs.Words.{u16At, zeros}
 use Rattle.names.specs.Names.{NAMES}
 use Rattle.book.specs.Form.{DONE, formOf, bookOf}
 use Rattle.grammar.specs.Rules.{Conflict}
@@ -20,10 +20,11 @@ use Rattle.verdict.proofs.Passing.{passed as judged-passed, passed-judges, pass
 use Rattle.verdict.proofs.Passing.{conflict-tells as judged-tells, others-silent as judged-silent}
 use Rattle.verdict.proofs.Some.{judges-some}
 use Rattle.verdict.proofs.Unique.{judges-unique}
+use Rattle.lengths.proofs.Cutting.{cut-within}
 use Rattle.running.specs.Cells.{Marks, Marked, cellOf}
-use Rattle.plan.specs.Form.{rowAt, planSize, cellAt}
+use Rattle.plan.specs.Form.{rowAt, dueAt, planSize, cellAt}
 use Rattle.plan.proofs.Laws.{size-small}
-use Rattle.writer.proofs.PlanBytes.{size-is, cell-is, mark-is}
+use Rattle.writer.proofs.PlanBytes.{size-is, cell-is, mark-is, due-is}
 use Rattle.writer.specs.Bytes.{planBytes}
 use Rattle.compiler.specs.declared.Compiled.{Compiled}
 use Rattle.compiler.specs.Compiles.{Compiles, refused, no-room, done, PLAN-ROOM, sizeOf}
@@ -82,7 +83,7 @@ module _ {bytes : List ℕ} {room : ℕ} where
   passes-exactly c form fits = let judges = judges-some bytes .1 in Iff·trans (passes-judged c judges fits) (judged-exactly judges form)
 
 -- the size of the plan of a book that passes
-plan-small : (bytes : List ℕ) → Judges bytes (judgement DONE 0 0 0) → sizeOf (bookOf bytes) ≤ 36376
+plan-small : (bytes : List ℕ) → Judges bytes (judgement DONE 0 0 0) → sizeOf (bookOf bytes) ≤ 37406
 plan-small bytes judges =
     let book = judged-passed judges refl .by-rules .well-formed in
     size-small (bookOf bytes .count) (bookOf bytes .kinds) (book .few-nodes) (book .few-kinds)
@@ -100,8 +101,8 @@ passed-size (refused _ bad) is = absurd (bad is)
 passed-size (no-room _ _) is = absurd (omega arith)
 passed-size (done _ _ _) is = refl
 
--- a plan has at most 36,376 bytes
-pub size-most : {bytes : List ℕ} {room : ℕ} {a : Compiled} {p : List ℕ} → Compiles bytes room a p → a .size ≤ 36376
+-- a plan has at most 37,406 bytes
+pub size-most : {bytes : List ℕ} {room : ℕ} {a : Compiled} {p : List ℕ} → Compiles bytes room a p → a .size ≤ 37406
 size-most (refused _ _) = omega arith
 size-most {bytes} (no-room judges _) = plan-small bytes judges
 size-most {bytes} (done judges _ _) = plan-small bytes judges
@@ -175,3 +176,18 @@ module _ {bytes : List ℕ} {room : ℕ} {a : Compiled} {p : List ℕ}
       → n < bookOf bytes .count
       → cellAt p (bookOf bytes .count) (bookOf bytes .kinds) n (bookOf bytes .kinds) ≡ cond (marks .null n) 1 0
   passed-last n below = cell-first n (bookOf bytes .kinds) below (omega arith) ∙ mark-is (bookOf bytes) marks n below
+
+  -- the number of a node in the fourth section is what is due for it
+  pub passed-due : (n : ℕ) → n < bookOf bytes .count → u16At p (dueAt (bookOf bytes .count) (bookOf bytes .kinds) n) ≡ marks .due n
+  unfolding u16At
+  passed-due n below =
+      u16-first (dueAt (bookOf bytes .count) (bookOf bytes .kinds) n) (omega arith)
+      ∙ due-is (bookOf bytes) marks n below (omega (arith, cut-within (marked .due-is n)))
+    where
+      byte-first : (i : ℕ) → i < planSize (bookOf bytes .count) (bookOf bytes .kinds) → getD p i 0 ≡ getD (planBytes (bookOf bytes) marks) i 0
+      byte-first i within =
+          ap (λ q. getD q i 0) (passed-plan c good marked)
+          ∙ List·getD-append (planBytes (bookOf bytes) marks) _ 0 i (omega (arith, within, size-is (bookOf bytes) marks))
+
+      u16-first : (at : ℕ) → at + 1 < planSize (bookOf bytes .count) (bookOf bytes .kinds) → u16At p at ≡ u16At (planBytes (bookOf bytes) marks) at
+      u16-first at within = omega (arith, byte-first at (omega arith), byte-first (at + 1) within)

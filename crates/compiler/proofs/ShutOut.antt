@@ -51,7 +51,7 @@ unfolding bookOf named settingsAt countOf nodes nodeAt u16At
 fail-barren = elim [ ]
 
 -- a plan begins with the number of its sections
-plan-head : (book : Book) (marks : Marks) (rest : List ℕ) → getD (planBytes book marks ++ rest) 0 0 ≡ 3
+plan-head : (book : Book) (marks : Marks) (rest : List ℕ) → getD (planBytes book marks ++ rest) 0 0 ≡ 4
 unfolding planBytes planContents wordBytes
 plan-head book marks rest = refl
 

@@ -1,27 +1,17 @@
--- Compiling has an answer, for all bytes and any plan room. The marks of a well-formed book compute.
+-- Compiling has an answer, for all bytes and any plan room.
 use Prim.Native.Nat.{ℕ}
 use native.Mathlib.Omega.{arith}
 use native.Mathlib.Decide.{decLt, ℕ-discrete}
 use mathlib.Core.Path.{_≡_}
 use mathlib.Core.List.{List}
-use Rattle.book.specs.Book.{Book, WellFormed}
 use Rattle.book.specs.Form.{DONE, bookOf}
-use Rattle.rules.proofs.Marks.{nullable-decided, first-decided}
 use Rattle.verdict.specs.declared.Verdict.{Verdict}
 use Rattle.verdict.specs.Judges.{Judges}
 use Rattle.verdict.proofs.Passing.{passed, passed-judges}
 use Rattle.verdict.proofs.Some.{judges-some}
-use Rattle.running.specs.Cells.{Marks, Marked}
+use Rattle.running.proofs.Found.{marks, marks-are}
 use Rattle.compiler.specs.declared.Compiled.{Compiled}
 use Rattle.compiler.specs.Compiles.{Compiles, refused, no-room, done, sizeOf}
-
-module _ (book : Book) (wf : WellFormed book) where
-  unfoldable pub marks : Marks
-  marks = record { first = λ n k. first-decided book wf k .test n; null = nullable-decided book wf .test }
-
-  pub marks-are : Marked (book .node) marks
-  unfolding marks
-  marks-are = record { first-is = λ n k. first-decided book wf k .test-is n; null-is = nullable-decided book wf .test-is }
 
 module _ (bytes : List ℕ) (room : ℕ) where
   -- an answer that compiling may come to

@@ -12,6 +12,7 @@ use Rattle.book.specs.Form.{DONE, bookOf}
 use Rattle.verdict.specs.declared.Verdict.{Verdict}
 use Rattle.verdict.specs.Judges.{judgement, Judges}
 use Rattle.verdict.proofs.Unique.{judges-unique}
+use Rattle.lengths.proofs.Cutting.{least-cut-unique}
 use Rattle.running.specs.Cells.{Marks, Marked}
 use Rattle.writer.specs.Bytes.{planBytes}
 use Rattle.compiler.specs.declared.Compiled.{Compiled}
@@ -23,12 +24,13 @@ same-test {a = true} {b = b} f g = sym (g .1 (f .0 refl))
 same-test {a = false} {b = true} f g = f .1 (g .0 refl)
 same-test {a = false} {b = false} f g = refl
 
--- marks that are the facts are the same marks
+-- marks that are the facts and the least lengths are the same marks
 pub marks-unique : {node : ℕ → Node} {m m′ : Marks} → Marked node m → Marked node m′ → m ≡ m′
 marks-unique f g =
     λ i. record {
       first = λ n k. same-test (f .first-is n k) (g .first-is n k) i;
       null = λ n. same-test (f .null-is n) (g .null-is n) i;
+      due = λ n. least-cut-unique (f .due-is n) (g .due-is n) i;
     }
 
 -- a book that passes is not refused

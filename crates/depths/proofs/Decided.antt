@@ -13,8 +13,8 @@ use Rattle.grammar.specs.Rules.{Productive}
 use Rattle.grammar.specs.Passing.{Passes}
 use Rattle.rules.proofs.Bounds.{named-below}
 use Rattle.rules.proofs.Least.{Decided, Ruled, decided}
-use Rattle.rules.proofs.Marks.{productive-decided, nullable-decided, first-decided}
-use Rattle.running.specs.Cells.{Marks, Marked}
+use Rattle.rules.proofs.Marks.{productive-decided}
+use Rattle.running.proofs.Found.{marks, marks-are}
 use Rattle.depths.specs.Depths.{Greatest, NoGreatest}
 use Rattle.depths.specs.Ways.{Weighs, w-token, w-left, w-right, w-hold, w-pass, w-tagged, w-ref, AtLeast, heldBy}
 use Rattle.depths.proofs.Rising.{at-least-as, at-least-less, weighs-at-least, before, held-at-least, Tested, heavy-unbounded}
@@ -109,13 +109,6 @@ module _ (b : Book) (wf : WellFormed b) where
 
   tested : Tested (b .node) (b .count) (b .count + 2)
   tested = record { test = λ j. heavy-decided j .test; test-is = λ j n small below. heavy-decided j .test-is n }
-
-  pub marks : Marks
-  marks = record { first = λ n k. first-decided b wf k .test n; null = nullable-decided b wf .test }
-
-  pub marks-are : Marked (b .node) marks
-  unfolding marks
-  marks-are = record { first-is = λ n k. first-decided b wf k .test-is n; null-is = nullable-decided b wf .test-is }
 
 module _ {b : Book} (passes : Passes b) where
   abbrev wf : WellFormed b

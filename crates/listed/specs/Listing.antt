@@ -32,7 +32,7 @@ inputRoom = 2 + longestBook + eventRoom + 1
 
 -- the buffers: the plan's, which holds the largest plan, the holding slots and the tree's records
 abbrev pub planRoom : ℕ
-planRoom = 36376
+planRoom = 37406
 
 abbrev pub slotRoom : ℕ
 slotRoom = 512

@@ -161,7 +161,7 @@ const INPUT_ROOM: usize = 8283;
 
 const OUT_ROOM: usize = 57393;
 
-pub const PLAN_ROOM: usize = 36376;
+pub const PLAN_ROOM: usize = 37406;
 
 const SLOT_ROOM: usize = 512;
 

@@ -9,7 +9,7 @@ fn main() {
     // The first line, and 8,192 lines of records.
     let mut out = [0u8; 57393];
     // The largest plan.
-    let mut plan = [0u8; 36376];
+    let mut plan = [0u8; 37406];
     let mut held = [0u32; 512];
     let mut tree = [0u16; 8192];
     let count = listed::list(&input, size, &mut out, &mut plan, &mut held, &mut tree);

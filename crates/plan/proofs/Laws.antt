@@ -25,7 +25,7 @@ use Rattle.plan.specs.Form.{planCount, planKinds, planStart, cellAt, siz
 use Rattle.plan.specs.Rows.{oneCell, otherCell}
 
 -- the size of a plan of good count and kinds
-pub size-small : (count kinds : ℕ) → count ≤ 512 → kinds ≤ 64 → planSize count kinds ≤ 36376
+pub size-small : (count kinds : ℕ) → count ≤ 512 → kinds ≤ 64 → planSize count kinds ≤ 37406
 size-small count kinds few-nodes few-kinds =
     omega (arith, mul-le-mul {n₁ = count} {m₁ = kinds + 1} {n₂ = 512} {m₂ = 65} few-nodes (omega arith))
 

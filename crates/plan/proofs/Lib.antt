@@ -5,3 +5,4 @@ pub mod Laws
 pub mod Rows
 pub mod Runnable
 pub mod Searches
+pub mod Alike

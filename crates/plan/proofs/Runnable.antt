@@ -13,7 +13,7 @@ use Rattle.book.specs.declared.Node.{Node}
 use Rattle.book.specs.Decode.{nodeOf, nodes, nodeAt, typeAt, leftAt, rightAt}
 use Rattle.book.specs.Form.{DONE}
 use Rattle.book.proofs.Decoded.{nodes-below, nodes-beyond}
-use Rattle.plan.specs.Form.{planNodesAt, planCount, planKinds, planStart, planFrom, planOf, planJudged, rowAt, Runnable, RowHas}
+use Rattle.plan.specs.Form.{planNodesAt, planCount, planKinds, planStart, planFrom, planOf, planJudged, rowAt, dueAt, Runnable, RowHas}
 use Rattle.plan.proofs.Laws.{Legal, Done, done, size-small}
 use Rattle.plan.proofs.Children.{left-below, right-below}
 
@@ -133,13 +133,19 @@ module _ {bytes : List ℕ} {count kinds : ℕ} (runs : Runnable bytes count kin
   -- a cell stands in the bytes, which are few
   pub cell-inside : {n column : ℕ} → n < count → column ≤ kinds → (rowAt count kinds n + column < length bytes) × (length bytes < 65536)
   cell-inside {n} {column} below within =
-      let size : length bytes ≡ rowAt count kinds count = rw (runs .count-is, runs .kinds-is) (all .formed-is .size .is) in
+      let size : length bytes ≡ rowAt count kinds count + 2 * count = rw (runs .count-is, runs .kinds-is) (all .formed-is .size .is) in
       omega (
         arith,
         size,
         size-small count kinds few-nodes few-kinds,
         digits-lt {q = n} {m = count} {r = column} {c = kinds + 1} below (omega arith),
       )
+
+  -- and so does what is due for a node
+  pub due-inside : {n : ℕ} → n < count → (dueAt count kinds n + 1 < length bytes) × (length bytes < 65536)
+  due-inside {n} below =
+      let size : length bytes ≡ rowAt count kinds count + 2 * count = rw (runs .count-is, runs .kinds-is) (all .formed-is .size .is) in
+      omega (arith, size, size-small count kinds few-nodes few-kinds)
 
   -- what the sides of a node are asked with, where the node has a cell that is at least a number
   pub side-asks : {n kind : ℕ} (least : ℕ) → n < count → kind < kinds → least ≤ planFrom bytes count kinds .cell n kind

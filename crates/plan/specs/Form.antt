@@ -23,9 +23,9 @@ PLAN-FORM = 8
 abbrev pub CELL : ℕ
 CELL = 9
 
--- the sections of a plan with so many nodes and kinds, by their sizes: settings, nodes and rows
+-- the sections of a plan with so many nodes and kinds, by their sizes: settings, nodes, rows and what is due
 abbrev pub planSections : ℕ → ℕ → List ℕ
-planSections count kinds = 4 ∷ (6 * count) ∷ (count * (kinds + 1)) ∷ []
+planSections count kinds = 4 ∷ (6 * count) ∷ (count * (kinds + 1)) ∷ (2 * count) ∷ []
 
 -- where a plan's settings and nodes begin, whatever its counts, and its rows, and a node's row
 abbrev pub planSettingsAt : ℕ
@@ -40,7 +40,14 @@ rowsAt count = sectionAt (planSections count 0) 3
 abbrev pub rowAt : ℕ → ℕ → ℕ → ℕ
 rowAt count kinds n = rowsAt count + n * (kinds + 1)
 
--- a plan's size: 24 + 6N + N(K + 1)
+-- where what is due begins, and a node's number there
+abbrev pub duesAt : ℕ → ℕ → ℕ
+duesAt count kinds = sectionAt (planSections count kinds) 4
+
+abbrev pub dueAt : ℕ → ℕ → ℕ → ℕ
+dueAt count kinds n = duesAt count kinds + 2 * n
+
+-- a plan's size: 30 + 6N + N(K + 1) + 2N
 abbrev pub planSize : ℕ → ℕ → ℕ
 planSize count kinds = formSize (planSections count kinds)
 
@@ -70,6 +77,7 @@ planFrom bytes count kinds =
       tag = λ n. tagOf (nodes bytes planNodesAt count n);
       cell = λ n k. cellAt bytes count kinds n k;
       null = λ n. eqb (cellAt bytes count kinds n kinds) 1;
+      due = λ n. u16At bytes (dueAt count kinds n);
     }
 
 -- the plan that bytes are
@@ -130,3 +138,8 @@ pub record RowHas (bytes : List ℕ) (n least : ℕ) : Type 0 where
   pub kind : ℕ
   pub known : kind < planKinds bytes
   pub high : least ≤ planOf bytes .cell n kind
+
+-- plans that are alike but for what is due: as long, and the same in every byte before that section, the last
+pub record AlikeButDue (one other : List ℕ) : Type 0 where
+  pub long : length one ≡ length other
+  pub before : (i : ℕ) → i < duesAt (planCount one) (planKinds one) → getD one i 0 ≡ getD other i 0

@@ -5,7 +5,8 @@ ghost use lib.Dec.{ltb};
 ghost use lib.ListN.{length};
 ghost use Rattle.forms.specs.Forms.{contentsAre};
 ghost use Rattle.plan.specs.Form.{planSections, planSize, sizeGood, planGood, cellsJudged, planJudged};
-ghost use Rattle.plan.specs.Form.{planNodesAt, planCount, planKinds, planStart, cellAt, planOf, Runnable, RowHas};
+ghost use Rattle.plan.specs.Form.{planNodesAt, planCount, planKinds, planStart, cellAt};
+ghost use Rattle.plan.specs.Form.{planFrom, planOf, Runnable, RowHas};
 ghost use Rattle.plan.specs.Rows.{oneCell, otherCell, badColumn};
 use book::Judged;
 use book::Node;
@@ -19,9 +20,9 @@ use words::wide;
 // Where the length of a plan's nodes stands, and where its settings and nodes begin.
 const NODES_LENGTH_AT: usize = 12;
 
-pub const PLAN_SETTINGS_AT: usize = 20;
+pub const PLAN_SETTINGS_AT: usize = 26;
 
-pub const PLAN_NODES_AT: usize = 24;
+pub const PLAN_NODES_AT: usize = 30;
 
 // The type of a tagged node.
 const TAGGED: usize = 5;
@@ -61,6 +62,17 @@ pub fn cell_at(plan: &[u8], count: usize, kinds: usize, node: usize, column: usi
     ensures { λ r. ⌜ (r ≡ cellAt (now (plan .entry)) count kinds node column) × (r < 256) ⌝ }
 {
     wide(plan[PLAN_NODES_AT + 6 * count + node * (kinds + 1) + column])
+}
+
+// How many events are due for a node, by its number in the fourth section.
+pub fn due_at(plan: &[u8], count: usize, kinds: usize, node: usize) -> usize
+    requires { ⌜ (Runnable (now plan) count kinds) × (node < count) ⌝ }
+    ensures { λ r. ⌜ (r ≡ planFrom (now (plan .entry)) count kinds .due node) × (r < 65536) ⌝ }
+{
+    u16_at(
+        plan,
+        PLAN_NODES_AT + 6 * count + count * (kinds + 1) + 2 * node,
+    )
 }
 
 // The left of a node whose row has a cell of 2 or more.
@@ -187,7 +199,9 @@ fn size_good(size: usize, count: usize, kinds: usize) -> bool
     requires { ⌜ (count < 65536) × (kinds < 65536) ⌝ }
     ensures { λ r. ⌜ r ≡ sizeGood size count kinds ⌝ }
 {
-    (size == PLAN_NODES_AT + 6 * count + count * (kinds + 1)) & (1 <= count) & (count <= 512)
+    (size == PLAN_NODES_AT + 6 * count + count * (kinds + 1) + 2 * count)
+        & (1 <= count)
+        & (count <= 512)
 }
 
 // Whether a plan's contents are those fixed by its nodes and kinds.
@@ -195,7 +209,7 @@ fn plan_contents_good(plan: &[u8], count: usize, kinds: usize) -> bool
     requires { ⌜ (planSize count kinds ≤ length (now plan)) × (kinds < 65536) ⌝ }
     ensures { λ r. ⌜ r ≡ contentsAre (now (plan .entry)) (planSections count kinds) ⌝ }
 {
-    let sizes = [4, 6 * count, count * (kinds + 1)];
+    let sizes = [4, 6 * count, count * (kinds + 1), 2 * count];
     contents_are(plan, &sizes)
 }
 
@@ -238,5 +252,5 @@ pub fn plan_size(count: usize, kinds: usize) -> usize
     requires { ⌜ (count ≤ 512) × (kinds ≤ 64) ⌝ }
     ensures { λ r. ⌜ (r ≡ planSize count kinds) × (r < 65536) ⌝ }
 {
-    PLAN_NODES_AT + 6 * count + count * (kinds + 1)
+    PLAN_NODES_AT + 6 * count + count * (kinds + 1) + 2 * count
 }

@@ -21,7 +21,7 @@ use Rattle.verdict.proofs.Passing.{passed}
 use Rattle.depths.specs.Ways.{AtLeast, heldBy}
 use Rattle.depths.proofs.Rising.{Tested, heavy-unbounded}
 use Rattle.depths.proofs.Numbers.{greatest-by, greatest-none}
-use Rattle.depths.proofs.Decided.{marks, marks-are}
+use Rattle.running.proofs.Found.{marks, marks-are}
 use Rattle.profile.specs.declared.Depth.{Depth}
 use Rattle.profile.specs.Weights.{MOST, Weighed}
 use Rattle.profile.specs.Profiles.{UNBOUNDED, depth, Measures, refused, unbounded, measured, Profiles, fits}

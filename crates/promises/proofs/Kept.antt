@@ -34,6 +34,7 @@ use Rattle.running.specs.Stages.{Part, stagedEvent, stagedReading, nodesOf, bar
 use Rattle.running.proofs.Stages.{event-bare, reading-bare}
 use Rattle.running.proofs.InStage.{stopped-in-stage}
 use Rattle.running.specs.Cells.{Marks, Marked, cellOf, planFor}
+use Rattle.plan.specs.Form.{AlikeButDue}
 use Rattle.compiler.specs.declared.Compiled.{Compiled}
 use Rattle.compiler.specs.Compiles.{Compiles, sizeOf}
 use Rattle.compiler.proofs.Alike.{compiles-without-names}
@@ -66,9 +67,9 @@ use Rattle.profile.proofs.Unique.{measures-unique, profiles-unique}
 use Rattle.profile.proofs.Some.{measures-some, profiles-some}
 use Rattle.worked.specs.Worked.{Each, Holds, table}
 use Rattle.worked.proofs.Checked.{worked}
-use Rattle.promises.specs.Promises.{CompileAnswers, ReadAnswers, PassesExactly, ClashesTold, PlanByRules, Enough, ReadsAsMeant, FewRecords, OnBiggerBoards}
+use Rattle.promises.specs.Promises.{CompileAnswers, ReadAnswers, PassesExactly, ClashesTold, PlanByRules, DueTold, Enough, ReadsAsMeant, FewRecords, OnBiggerBoards}
 use Rattle.promises.specs.Promises.{PartsMeasured, ProfileSays}
-use Rattle.promises.proofs.Answers.{compiled-answers, clashes-told, read-answers, by-rules}
+use Rattle.promises.proofs.Answers.{compiled-answers, clashes-told, read-answers, by-rules, least-due, reads-alike}
 use Rattle.promises.proofs.More.{by-call, bigger-boards}
 use Rattle.promises.proofs.Meant.{passed-reads, passed-reads-any, passed-records, passed-no-room}
 use Rattle.promises.proofs.RoundTrips.{done-short, done-not-deep, done-not-full, tree-back, tree-read}
@@ -144,6 +145,16 @@ conflict-tells-all compiled = clashes-told compiled
 pub demand-2-plan : {bytes : List ℕ} {room : ℕ} {a : Compiled} {plan : List ℕ} → Compiles bytes room a plan → a .number ≡ DONE
     → PlanByRules bytes room plan
 demand-2-plan compiled is = by-rules compiled is
+
+-- What is due is told: the fourth section of a passed book's plan has the least lengths, by derivations.
+pub due-told : {bytes : List ℕ} {room : ℕ} {a : Compiled} {plan : List ℕ}
+    → Compiles bytes room a plan → a .number ≡ DONE → DueTold bytes plan
+due-told compiled is = least-due compiled is
+
+-- Whatever stands there, plans alike but for it give the same answers and trees, forged plans too.
+pub due-answers-alike : {plan other run held tree held-after tree-after : List ℕ} {r : Reading}
+    → AlikeButDue plan other → Reads plan run held tree r held-after tree-after → Reads other run held tree r held-after tree-after
+due-answers-alike alike reads = reads-alike alike reads
 
 -- Demand 2, what the facts mean of runs: the start is productive iff it derives some run
 pub fruitful-means : (b : Book) → Fruitful b ↔ ((run : List ℕ) × Lawful b run)

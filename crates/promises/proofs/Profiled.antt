@@ -13,7 +13,7 @@ use Rattle.compiler.specs.Compiles.{Compiles}
 use Rattle.reader.specs.Reads.{readOf}
 use Rattle.depths.specs.Depths.{After}
 use Rattle.depths.proofs.Numbers.{event-enough, event-not-deep, greatest-positive}
-use Rattle.depths.proofs.Decided.{marks, marks-are}
+use Rattle.running.proofs.Found.{marks, marks-are}
 use Rattle.profile.specs.declared.Depth.{Depth}
 use Rattle.profile.specs.Profiles.{Measures, refused, unbounded, measured, Profiles, no-profile, refused-anyhow, deeper, fits}
 use Rattle.profile.proofs.Promise.{measured-greatest, measures-refused, measures-number, measures-none, takes-exactly}

@@ -32,10 +32,10 @@ rest-of (suc n) (and here later) = rest-of n later
 record Parting : Type 0 where
   bytes : List ℕ
   plan : List ℕ
-  compiled : Compiles bytes 114 (answer DONE 0 114 0 0) plan
-  rinses : readOf (take 114 plan) (0 ∷ 1 ∷ 2 ∷ []) 2 8 ≡ outcome (answered DONE 3 8 0) (8 ∷ 0 ∷ 7 ∷ 6 ∷ 5 ∷ 1 ∷ 32772 ∷ 2 ∷ [])
-  tips : readOf (take 114 plan) (0 ∷ 2 ∷ []) 2 8 ≡ outcome (answered DONE 2 5 0) (8 ∷ 0 ∷ 7 ∷ 32774 ∷ 2 ∷ 0 ∷ 0 ∷ 0 ∷ [])
-  fills-again : readOf (take 114 plan) (0 ∷ 0 ∷ []) 2 8 ≡ outcome (answered UNEXPECTED 1 0 6) (zeros 8)
+  compiled : Compiles bytes 138 (answer DONE 0 138 0 0) plan
+  rinses : readOf (take 138 plan) (0 ∷ 1 ∷ 2 ∷ []) 2 8 ≡ outcome (answered DONE 3 8 0) (8 ∷ 0 ∷ 7 ∷ 6 ∷ 5 ∷ 1 ∷ 32772 ∷ 2 ∷ [])
+  tips : readOf (take 138 plan) (0 ∷ 2 ∷ []) 2 8 ≡ outcome (answered DONE 2 5 0) (8 ∷ 0 ∷ 7 ∷ 32774 ∷ 2 ∷ 0 ∷ 0 ∷ 0 ∷ [])
+  fills-again : readOf (take 138 plan) (0 ∷ 0 ∷ []) 2 8 ≡ outcome (answered UNEXPECTED 1 0 6) (zeros 8)
   count-is : bookOf bytes .count ≡ 9
 
 parting : Parting
@@ -60,17 +60,17 @@ module _ (answers : (plan run held tree : List ℕ) → Reading) (slots trees : 
     → Reads plan run held tree (answers plan run held tree) (slots plan run held tree) (trees plan run held tree)) where
   -- what the reader answers to a run by that plan, and writes
   given : List ℕ → Reading
-  given run = answers (take 114 (parting .plan)) run (zeros 23) (zeros 49)
+  given run = answers (take 138 (parting .plan)) run (zeros 23) (zeros 49)
 
   written : List ℕ → List ℕ
-  written run = trees (take 114 (parting .plan)) run (zeros 23) (zeros 49)
+  written run = trees (take 138 (parting .plan)) run (zeros 23) (zeros 49)
 
   -- an answer with few slots and little room, other than DEEP and NO ROOM, is the one with these
-  given-is : (run : List ℕ) {r : Reading} {t : List ℕ} → readOf (take 114 (parting .plan)) run 2 8 ≡ outcome r t → r .number ≢ DEEP
+  given-is : (run : List ℕ) {r : Reading} {t : List ℕ} → readOf (take 138 (parting .plan)) run 2 8 ≡ outcome r t → r .number ≢ DEEP
       → r .number ≢ NO-ROOM → outcome (given run) (written run) ≡ outcome r (t ++ zeros 41)
   unfolding given written
   given-is run {r} {t} is not-deep roomy =
-      let plan = take 114 (parting .plan) in
+      let plan = take 138 (parting .plan) in
       let lengths : readOf plan run (length (zeros 23)) (length (zeros 49)) ≡ readOf plan run 23 49 =
       rw (length-replicate {A = ℕ} 23 0, length-replicate {A = ℕ} 49 0) in
       let number : readOf plan run 2 8 .reading .number ≡ r .number = ap (λ (o : Outcome). o .reading .number) is in

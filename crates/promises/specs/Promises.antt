@@ -7,18 +7,19 @@ use mathlib.Core.Bool.{true, false, cond}
 use mathlib.Core.Logic.{_↔_, _≢_, _⊎_}
 use mathlib.Core.List.{List, _++_}
 use lib.ListN.{length, take, getD}
-use Rattle.words.specs.Words.{zeros}
+use Rattle.words.specs.Words.{u16At, zeros}
 use Rattle.kinds.specs.Kinds.{Has}
 use Rattle.book.specs.Book.{Book}
 use Rattle.book.specs.Form.{DONE, formOf, bookOf}
 use Rattle.grammar.specs.Rules.{Conflict}
 use Rattle.grammar.specs.Passing.{AllReached, Fruitful, NoConflict}
 use Rattle.grammar.specs.Derivations.{Lawful}
+use Rattle.lengths.specs.Least.{LeastCut}
 use Rattle.running.specs.Running.{DEEP, UNKNOWN, UNEXPECTED, END, RUNAWAY, withSlots, accepted, stopped}
 use Rattle.running.specs.Running.{Next, reading, tells}
 use Rattle.running.specs.Stages.{Part, stagedReading, stageOf, nodesOf}
 use Rattle.running.specs.Cells.{Marks, Marked, cellOf}
-use Rattle.plan.specs.Form.{cellAt, planCount, planOf, planJudged}
+use Rattle.plan.specs.Form.{cellAt, dueAt, planCount, planOf, planJudged}
 use Rattle.writer.specs.Bytes.{planBytes}
 use Rattle.verdict.specs.declared.Verdict.{Verdict}
 use Rattle.verdict.specs.Judges.{CONFLICT, Clashing, BothNullable, judgement, Judges}
@@ -32,11 +33,11 @@ use Rattle.depths.specs.Depths.{Greatest, NoGreatest}
 use Rattle.profile.specs.declared.Depth.{Depth}
 use Rattle.profile.specs.Profiles.{UNBOUNDED, DEEPER, SLOTS, depth}
 
--- Demand 1, compiling: the answer is one of 0 to 7, 19 or 22, a plan has at most 36,376 bytes, and a refusal leaves the
+-- Demand 1, compiling: the answer is one of 0 to 7, 19 or 22, a plan has at most 37,406 bytes, and a refusal leaves the
 -- whole plan buffer zero
 pub record CompileAnswers (room : ℕ) (a : Compiled) (plan : List ℕ) : Type 0 where
   pub listed : (a .number ≤ 7) ⊎ ((a .number ≡ 19) ⊎ (a .number ≡ 22))
-  pub most : a .size ≤ 36376
+  pub most : a .size ≤ 37406
   pub whole : length plan ≡ room
   pub refused-zero : a .number ≢ DONE → plan ≡ zeros room
 
@@ -88,6 +89,14 @@ pub record PlanByRules (bytes : List ℕ) (room : ℕ) (plan : List ℕ) : Type 
       → cellAt plan (bookOf bytes .count) (bookOf bytes .kinds) n k ≡ cellOf marks k n (bookOf bytes .node n)
   pub mark-is : (n : ℕ) → n < bookOf bytes .count
       → cellAt plan (bookOf bytes .count) (bookOf bytes .kinds) n (bookOf bytes .kinds) ≡ cond (marks .null n) 1 0
+
+-- What is due: the number of each node in the fourth section of a passed book's plan is the least length of a run that
+-- the node derives, 65,535 where it is that or more or there is none
+abbrev pub DueTold : List ℕ → List ℕ → Type 0
+DueTold bytes plan =
+    (n : ℕ) → n < bookOf bytes .count
+    → LeastCut (bookOf bytes .node) (bookOf bytes .node n) 65535
+    (u16At plan (dueAt (bookOf bytes .count) (bookOf bytes .kinds) n))
 
 -- slots enough, and tree room enough, for a run of a length by a plan of so many nodes
 abbrev pub slotsEnough : ℕ → ℕ → ℕ

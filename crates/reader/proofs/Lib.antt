@@ -3,11 +3,12 @@ pub mod Refusals
 pub mod Simulation
 pub mod Fold
 pub mod Runs
-mod Bounds
+pub mod Bounds
 mod WalkUnderWay
 mod PartsTakenOff
 mod Rows
 mod RunUnderWay
 pub mod Settles
-mod Stops
+pub mod Stops
 pub mod Answers
+pub mod Alike

@@ -123,7 +123,7 @@ module _ (p : Plan) (slots : ℕ) where
         by-kind false kept rest = stops tree₀ at count held records run go unknown (omega arith) (omega arith) refl kept
 
 -- the answer at the end, where the machine stands with all parts taken off or one that is not nullable
-abbrev endOf : After → ℕ → ℕ → ℕ → Outcome
+abbrev pub endOf : After → ℕ → ℕ → ℕ → Outcome
 endOf s at label kinds =
     cond (eqb (s .spot .number) DONE) (outcome (answered DONE at (s .spot .written) 0) (s .tree))
     (outcome (told (s .spot .number) at label kinds) (s .tree))
@@ -151,7 +151,7 @@ module _ (p : Plan) where
 
   module _ (slots : ℕ) where
     -- the end of a run
-    finish-same : (at count written : ℕ) (before : List Part) (held tree : List ℕ) → SlotsHold (p .count) slots held count
+    pub finish-same : (at count written : ℕ) (before : List Part) (held tree : List ℕ) → SlotsHold (p .count) slots held count
         → SameRun tree written at (stagedFinish p at before (stack held count))
         (endOf (finishOf p count written held tree) at (stageOf before) (expected p (nodesOf before)))
     unfolding stagedFinish finishOf stack

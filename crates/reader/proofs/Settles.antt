@@ -22,7 +22,7 @@ use Rattle.reader.specs.Settled.{settledOf}
 use Rattle.reader.proofs.Runs.{SameRun, as-accepted, as-stopped}
 
 -- what is left of a tree's room, cleared
-rest-cleared : (tree rest : List ℕ) (n : ℕ) → n ≤ length tree → rest ≡ zeros (length (midOf n (length tree - n) tree))
+pub rest-cleared : (tree rest : List ℕ) (n : ℕ) → n ≤ length tree → rest ≡ zeros (length (midOf n (length tree - n) tree))
     → putMid n (length tree - n) tree rest ≡ take n tree ++ zeros (length tree - n)
 rest-cleared tree rest n within is =
     ap (λ (l : List ℕ). take n tree ++ l)

@@ -298,7 +298,7 @@ fn finish(
 }
 
 // Whether a refusal tells what was expected: 12, 13 and 14 do.
-fn tells_kinds(number: u32) -> bool
+pub fn tells_kinds(number: u32) -> bool
     ensures { λ r. ⌜ r ≡ tells number ⌝ }
 {
     UNKNOWN <= number && number <= END
@@ -365,7 +365,7 @@ pub fn refuse(
 }
 
 // The end of a run, at a place.
-fn close(
+pub fn close(
     plan: &[u8],
     nodes: usize,
     kinds: usize,
@@ -558,7 +558,7 @@ fn answer(plan: &[u8], run: &[u8], held: &mut [u32], tree: &mut [u16]) -> Readin
 }
 
 // Sets all slots to zero.
-fn clear_slots(held: &mut [u32])
+pub fn clear_slots(held: &mut [u32])
     ensures { λ _. ⌜ now (held .exit) ≡ zeros (length (now (held .entry))) ⌝ }
 {
     let mut slot = 0;

@@ -215,7 +215,7 @@ fn visit_ref(book: &[u8], base: usize, count: usize, n: usize, table: &mut [u64]
 }
 
 // The node visited at a step of a turn, downward or upward.
-fn visited(count: usize, downward: bool, i: usize) -> usize
+pub fn visited(count: usize, downward: bool, i: usize) -> usize
     requires { ⌜ i < count ⌝ }
     ensures { λ r. ⌜ (r ≡ visitedAt count downward i) × (r < count) ⌝ }
 {

@@ -1,6 +1,8 @@
 pub mod Agrees
 pub mod Expected
+pub mod Found
 pub mod Stages
+pub mod StagesAgree
 pub mod InStage
 pub mod Limits
 pub mod Longer

@@ -26,7 +26,8 @@ abbrev pub RUNAWAY : ℕ
 RUNAWAY = 15
 
 -- what a reading goes by: how many nodes and kinds there are, the start, each node's left and right and its tag, 0
--- where it is not tagged, the cell of a node for a kind, and whether a node is nullable by its row
+-- where it is not tagged, the cell of a node for a kind, and whether a node is nullable by its row; with how many
+-- events are due for a node
 pub record Plan : Type 0 where
   pub count : ℕ
   pub kinds : ℕ
@@ -36,6 +37,7 @@ pub record Plan : Type 0 where
   pub tag : ℕ → ℕ
   pub cell : ℕ → ℕ → ℕ
   pub null : ℕ → Bool
+  pub due : ℕ → ℕ
 
 -- a slot is free where fewer parts are held than there are slots; and without a limit
 abbrev pub withSlots : ℕ → ℕ → Bool

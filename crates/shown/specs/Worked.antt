@@ -39,7 +39,7 @@ table =
     ∷ refusal "a = x;\na = y;\n" TWICE 7 "refused 27 line 2 column 1: this name comes again\n"
     ∷ refusal "" BIG 0 "refused 28: over 512 nodes or 64 kinds\n"
     ∷ refusal "a = empty;" KINDLESS 0 "refused 29: no event kind\n"
-    ∷ compiled "" (answer DONE 0 114 0 0) 0 "passes, a plan of 114 bytes\n"
+    ∷ compiled "" (answer DONE 0 138 0 0) 0 "passes, a plan of 138 bytes\n"
     ∷ compiled "a = x;\n b = y;\n" (answer UNUSED 1 0 0 0) 12 "refused 22 node 1 line 2 column 6\n b = y;\n     ^\n"
     ∷ compiled "a = x a;" (answer BARREN 2 0 0 0) 6 "refused 5 node 2 line 1 column 7\na = x a;\n      ^\n"
     ∷ []

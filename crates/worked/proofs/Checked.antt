@@ -14,6 +14,9 @@ use Rattle.book.specs.Encode.{bodyWords}
 use Rattle.rules.proofs.Least.{filled, kept-or, differ, turned, settled, settle, decided}
 use Rattle.rules.proofs.Marks.{ruled, given, facts-decided, fact-decided, productive-decided, nullable-decided, first-decided, snf-decided}
 use Rattle.rules.proofs.Reaching.{child?, any, reached?, reach-decided}
+use Rattle.rules.specs.Growth.{total}
+use Rattle.lengths.specs.Falling.{lengthOf}
+use Rattle.lengths.proofs.Deciding.{lower, climb, turn, rested, rest, least-lengths}
 use Rattle.writer.specs.Bytes
 use Rattle.writer.specs.Bytes.{planBytes, planContents, bookBody}
 use Rattle.words.specs.Lists.{valuesFrom, listsFrom}
@@ -25,7 +28,8 @@ use Rattle.compiler.specs.declared.Compiled.{Compiled}
 use Rattle.compiler.specs.Compiles.{answer, Compiles}
 use Rattle.verdict.proofs.Some.{decide, other-way, search, flag, shared, tells, conflict?, unreached?}
 use Rattle.verdict.proofs.Some.{judged-fruitful, judged-start, judged-good, judged-form, judges-some}
-use Rattle.compiler.proofs.Some.{marks, by-verdict, compiles-some}
+use Rattle.running.proofs.Found.{lengths-found, marks}
+use Rattle.compiler.proofs.Some.{by-verdict, compiles-some}
 use Rattle.reader.specs.Reads.{Outcome, outcome, acceptedOf, outcomeOf, runOf, readOf}
 use Rattle.worked.specs.Worked.{book, Case, compiled, read, Each, no-more, and, Holds, table}
 
@@ -69,7 +73,8 @@ unfolding table book wordBytes flatMap computed said by-verdict compiles-some
     first-decided snf-decided child? any reached? reach-decided
     decide other-way search setOf flag shared tells conflict? unreached?
     judged-fruitful judged-start judged-good judged-form judges-some marks
-    planBytes planContents bookBody bodyWords valuesFrom listsFrom Bytes.rowOf Bytes.rowsOf cellOf
+    planBytes planContents bookBody bodyWords valuesFrom listsFrom Bytes.rowOf Bytes.rowsOf Bytes.duesOf cellOf
+    total lengthOf lower climb turn rested rest least-lengths lengths-found
     planCount planKinds planStart cellAt planFrom planGood cellGood cellsJudged planJudged
     moveOf noted takeOff stagedVisit stagedWalk stagedEvent logged onward stagedFinish stagedReads stagedReading stageOf
     rowFirst expected acceptedOf outcomeOf runOf readOf

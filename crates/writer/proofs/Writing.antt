@@ -1,29 +1,33 @@
 -- What the plan writer is called with, and the row that it writes for a node.
-use mathlib.Core.Path.{_≡_, sym, ap, ap₂, _∙_}
+use mathlib.Core.Path.{_≡_, refl, sym, ap, ap₂, _∙_}
 use mathlib.Core.Bool.{cond}
-use mathlib.Core.List.{List, _++_, append-assoc}
-use Prim.Native.Nat.{ℕ, _+_, _-_, _≤_, _<_}
+use mathlib.Core.List.{List, [], _∷_, _++_, append-assoc}
+use Prim.Native.Nat.{ℕ, _+_, _*_, _-_, _≤_, _<_}
 use native.Mathlib.Omega.{arith}
+use borrow.Author.Tests.{lt-ltb}
 use lib.ListN.{length, length-append}
 use lib.Seq.{sets, length-sets}
 use Rattle.kinds.specs.Kinds.{has?}
-use Rattle.words.specs.Lists.{listsFrom}
-use Rattle.words.specs.Words.{zeros}
-use Rattle.words.proofs.Stored.{sets-then}
+use Rattle.words.specs.Lists.{valuesFrom, listsFrom}
+use Rattle.words.specs.Words.{withU16, wordBytes, zeros}
+use Rattle.words.proofs.Stored.{sets-then, sets-word}
 use Rattle.book.specs.Book.{WellFormed, leftOf}
 use Rattle.book.specs.Form.{bookOf}
 use Rattle.book.specs.declared.Node.{Node}
+use Rattle.book.specs.declared.Node.the-variants.{Fail, Empty, Token, Either, Then, Tagged, Ref}
 use Rattle.book.proofs.Decoded.{formed, well-formed}
 use Rattle.rules.specs.declared.NodeFacts.{NodeFacts}
 use Rattle.rules.specs.Facts.{factsAt}
-use Rattle.running.specs.Cells.{Marks}
-use Rattle.plan.specs.Form.{planSettingsAt, rowsAt, rowAt, planSize}
+use Rattle.lengths.specs.Least.{lengthAt}
+use Rattle.lengths.specs.Falling.{smaller}
+use Rattle.running.specs.Cells.{Marks, cellOf}
+use Rattle.plan.specs.Form.{planSettingsAt, rowsAt, rowAt, duesAt, planSize}
 use Rattle.plan.specs.Rows.{oneCell}
-use Rattle.writer.specs.Bytes.{planContents, bookBody, rowOf, rowsOf, planBytes}
-use Rattle.writer.specs.Table.{marksOf, farCell, rowBy, Writable, ClearFrom}
+use Rattle.writer.specs.Bytes.{planContents, bookBody, rowOf, rowsOf, duesOf, planBytes}
+use Rattle.writer.specs.Table.{marksOf, withDue, dueBy, dueBytes, farCell, rowBy, Writable, ClearFrom}
 use Rattle.plan.proofs.Children.{left-below}
 use Rattle.plan.proofs.Laws.{size-small}
-use Rattle.writer.proofs.PlanBytes.{contents-long, body-long, length-row, size-is}
+use Rattle.writer.proofs.PlanBytes.{contents-long, body-long, length-row, length-rows, size-is}
 use Rattle.writer.proofs.Row.{row-by}
 use Rattle.plan.proofs.Rows.{row-within}
 use Rattle.writer.proofs.StoredByKinds.{clear-zeros, clear-behind}
@@ -40,6 +44,26 @@ writable-kept long w =
       table-long = w .table-long;
       plan-long = rw long (w .plan-long);
     }
+
+-- what is due changes no cell
+cell-due : (marks : Marks) (lengths : List ℕ) (count k n : ℕ) (node : Node) → cellOf marks k n node ≡ cellOf (withDue marks lengths count) k n node
+unfolding cellOf withDue
+cell-due marks lengths count k n Fail = refl
+cell-due marks lengths count k n Empty = refl
+cell-due marks lengths count k n (Token j) = refl
+cell-due marks lengths count k n (Either l r) = refl
+cell-due marks lengths count k n (Then l r) = refl
+cell-due marks lengths count k n (Tagged l t) = refl
+cell-due marks lengths count k n (Ref l) = refl
+
+-- a length held at 65,535 and written as a 16-bit number is what is due
+pub due-stored : (l lengths : List ℕ) {next : List ℕ} (at n count : ℕ) {value size : ℕ} → n < count → size ≡ lengthAt lengths n
+    → value ≡ smaller size 65535 → next ≡ withU16 l at value → next ≡ sets l at (dueBytes lengths count n)
+due-stored l lengths at n count {value} below length-is value-is is =
+    is ∙ sets-word l at value ∙ ap (λ (v : ℕ). sets l at (wordBytes (v ∷ []))) due
+  where
+    due : value ≡ dueBy lengths count n
+    due = rw (lt-ltb n count below) (value-is ∙ ap (λ (v : ℕ). smaller v 65535) length-is)
 
 module _ {book table plan : List ℕ} {count kinds : ℕ} (w : Writable book table plan count kinds) where
   formed-book : WellFormed (bookOf book)
@@ -75,6 +99,22 @@ module _ {book table plan : List ℕ} {count kinds : ℕ} (w : Writable book tab
         rw (mark-is, far-is, skip-is, facts-are, left-facts-are, near-is, left-is, node-is, w .kinds-is)
         (row-by table count n below (bookOf book) (rw node-is at left-small))
 
+  -- the dues of a table of lengths are those of marks with them, which have the rows of the marks without
+  pub dues-are : (lengths : List ℕ)
+      → listsFrom (dueBytes lengths count) count 0 ≡ duesOf (withDue (marksOf table count) lengths count) (bookOf book)
+  unfolding duesOf withDue
+  dues-are lengths = ap (λ (m : ℕ). listsFrom (dueBytes lengths count) m 0) (w .count-is)
+
+  pub same-rows : (lengths : List ℕ)
+      → rowsOf (marksOf table count) (bookOf book) ≡ rowsOf (withDue (marksOf table count) lengths count) (bookOf book)
+  unfolding rowsOf rowOf withDue
+  same-rows lengths =
+      λ i. listsFrom
+      (λ n. valuesFrom (λ k. cell-due (marksOf table count) lengths count k n (bookOf book .node n) i) (bookOf book .kinds) 0
+      ++ (cond (marksOf table count .null n) 1 0 ∷ []))
+      (bookOf book .count)
+      0
+
   pub rows-within : rowsAt count ≤ length plan
   rows-within = omega (arith, w .plan-long)
 
@@ -97,7 +137,15 @@ module _ {book table plan : List ℕ} {count kinds : ℕ} (w : Writable book tab
         (sym body-to-rows),
   )
 
-  -- contents, settings and nodes, and rows, stored one behind the other in a cleared buffer, are the plan and zeros behind it
+  -- rows stored leave room for what is due
+  pub dues-ready : {two three : List ℕ} → Writable book table two count kinds
+      → three ≡ sets two (rowsAt count) (rowsOf (marksOf table count) (bookOf book))
+      → (duesAt count kinds + 2 * count ≤ length three) × (duesAt count kinds + 2 * count < 65536)
+  dues-ready {two} {three} ready is =
+      let long : length three ≡ length two = ap length is ∙ length-sets two (rowsAt count) (rowsOf (marksOf table count) (bookOf book)) in
+      (omega (arith, long, ready .plan-long), small-size)
+
+  -- contents, settings and nodes, and rows and dues, stored one behind the other in a cleared buffer, are the plan and zeros behind it
   module _ (marks : Marks) where
     abbrev rows : List ℕ
     rows = rowsOf marks (bookOf book)
@@ -105,21 +153,37 @@ module _ {book table plan : List ℕ} {count kinds : ℕ} (w : Writable book tab
     abbrev written : List ℕ
     written = planBytes (bookOf book) marks
 
-    parts-are : planContents count kinds ++ (bookBody (bookOf book) ++ rows) ≡ written
-    unfolding planBytes
-    parts-are = ap₂ (λ (c k : ℕ). planContents c k ++ (bookBody (bookOf book) ++ rows)) (w .count-is) (w .kinds-is)
+    abbrev dues : List ℕ
+    dues = duesOf marks (bookOf book)
 
-    pub plan-written : {cleared one two three : List ℕ} → cleared ≡ zeros (length plan) → one ≡ sets cleared 0 (planContents count kinds)
+    parts-are : planContents count kinds ++ (bookBody (bookOf book) ++ (rows ++ dues)) ≡ written
+    unfolding planBytes
+    parts-are = ap₂ (λ (c k : ℕ). planContents c k ++ (bookBody (bookOf book) ++ (rows ++ dues))) (w .count-is) (w .kinds-is)
+
+    rows-to-dues : rowsAt count + length rows ≡ duesAt count kinds
+    rows-to-dues = rw (w .count-is, w .kinds-is) (omega (arith, length-rows marks (bookOf book)))
+
+    pub plan-written : {cleared one two three four : List ℕ} → cleared ≡ zeros (length plan) → one ≡ sets cleared 0 (planContents count kinds)
         → two ≡ sets one planSettingsAt (bookBody (bookOf book)) → three ≡ sets two (rowsAt count) rows
-        → three ≡ written ++ zeros (length plan - planSize count kinds)
-    plan-written clear first second third =
-        third
-        ∙ rw (second, first, clear)
-        (ap (λ (l : List ℕ). sets l (rowsAt count) rows)
+        → four ≡ sets three (duesAt count kinds) dues → four ≡ written ++ zeros (length plan - planSize count kinds)
+    plan-written clear first second third fourth =
+        fourth
+        ∙ rw (third, second, first, clear)
+        (ap (λ (l : List ℕ). sets (sets l (rowsAt count) rows) (duesAt count kinds) dues)
         (sets-then (zeros (length plan)) 0 contents planSettingsAt body (omega (arith, contents-long count kinds)))
-        ∙ sets-then (zeros (length plan)) 0 (contents ++ body) (rowsAt count) rows
-        (omega (arith, contents-long count kinds, length-append contents body, body-to-rows))
-        ∙ rw (append-assoc, parts-are)
+        ∙ ap (λ (l : List ℕ). sets l (duesAt count kinds) dues)
+        (sets-then (zeros (length plan)) 0 (contents ++ body) (rowsAt count) rows
+        (omega (arith, contents-long count kinds, length-append contents body, body-to-rows)))
+        ∙ sets-then (zeros (length plan)) 0 ((contents ++ body) ++ rows) (duesAt count kinds) dues
+        (omega (
+          arith,
+          contents-long count kinds,
+          length-append (contents ++ body) rows,
+          length-append contents body,
+          body-to-rows,
+          rows-to-dues,
+        ))
+        ∙ rw (append-assoc, append-assoc, parts-are)
         (sets-zeros (length plan) written (omega (arith, size, w .plan-long))
         ∙ ap (λ (m : ℕ). written ++ zeros (length plan - m)) size))
       where

@@ -1,4 +1,4 @@
--- The bytes of a book's plan: contents, settings and nodes as in the book, then the rows.
+-- The bytes of a book's plan: contents, settings and nodes as in the book, then the rows and what is due.
 use Prim.Native.Nat.{ℕ}
 use mathlib.Core.Bool.{cond}
 use mathlib.Core.List.{List, [], _∷_, _++_}
@@ -27,6 +27,11 @@ module _ (marks : Marks) (book : Book) where
   unfoldable pub rowsOf : List ℕ
   rowsOf = listsFrom rowOf (book .count) 0
 
+  -- what is due for all nodes, a 16-bit number each
+  unfoldable pub duesOf : List ℕ
+  duesOf = listsFrom (λ n. wordBytes (marks .due n ∷ [])) (book .count) 0
+
 -- the plan of a book, with the marks of its nodes
 unfoldable pub planBytes : Book → Marks → List ℕ
-planBytes book marks = planContents (book .count) (book .kinds) ++ (bookBody book ++ rowsOf marks book)
+planBytes book marks =
+    planContents (book .count) (book .kinds) ++ (bookBody book ++ (rowsOf marks book ++ duesOf marks book))

@@ -1,4 +1,4 @@
--- Marks read off a table of facts, and the rows by sets of kinds.
+-- Marks read off tables of facts and of lengths, and the rows by sets of kinds.
 use Prim.Native.Nat.{ℕ, _≤_}
 use mathlib.Core.Path.{_≡_}
 use mathlib.Core.Bool.{_&&_, cond}
@@ -7,10 +7,13 @@ use lib.Dec.{ltb}
 use lib.ListN.{length, getD}
 use Rattle.kinds.specs.Kinds.{has?}
 use Rattle.words.specs.Lists.{valuesFrom}
+use Rattle.words.specs.Words.{wordBytes}
 use Rattle.book.specs.Form.{DONE, formOf, bookOf}
 use Rattle.book.specs.declared.Node.{Node}
 use Rattle.book.specs.declared.Node.the-variants.{Fail, Empty, Token, Either, Then, Tagged, Ref}
 use Rattle.rules.specs.Facts.{tableSize, factsAt}
+use Rattle.lengths.specs.Least.{lengthAt}
+use Rattle.lengths.specs.Falling.{smaller}
 use Rattle.running.specs.Cells.{Marks}
 use Rattle.plan.specs.Form.{planSize}
 
@@ -21,13 +24,26 @@ nullSet table n = factsAt table n .nullable
 abbrev pub firstSet : List ℕ → ℕ → ℕ
 firstSet table n = factsAt table n .first
 
--- the marks that a table of facts for so many nodes has
+-- the marks that a table of facts for so many nodes has; by it nothing is due
 unfoldable pub marksOf : List ℕ → ℕ → Marks
 marksOf table count =
     record {
       first = λ n k. ltb n count && has? (firstSet table n) k;
       null = λ n. ltb n count && has? (nullSet table n) 0;
+      due = λ n. 0;
     }
+
+-- what is due for a node by a table of lengths for so many nodes: its least length, held at 65,535
+abbrev pub dueBy : List ℕ → ℕ → ℕ → ℕ
+dueBy lengths count n = cond (ltb n count) (smaller (lengthAt lengths n) 65535) 65535
+
+-- marks, with what is due by a table of lengths for so many nodes
+unfoldable pub withDue : Marks → List ℕ → ℕ → Marks
+withDue marks lengths count = record { first = marks .first; null = marks .null; due = dueBy lengths count }
+
+-- the bytes of what is due for a node by a table of lengths
+abbrev pub dueBytes : List ℕ → ℕ → ℕ → List ℕ
+dueBytes lengths count n = wordBytes (dueBy lengths count n ∷ [])
 
 -- the cell of a node for a kind in FIRST(node) that is not in FIRST(left), given a then's
 abbrev pub farCell : Node → ℕ → ℕ

@@ -5,12 +5,13 @@ ghost use mathlib.Core.List.{_++_};
 ghost use mathlib.Core.Bool.{cond};
 ghost use lib.ListN.{length};
 ghost use lib.Seq.{sets};
+ghost use Rattle.words.specs.Lists.{listsFrom};
 ghost use Rattle.words.specs.Words.{zeros};
 ghost use Rattle.book.specs.Book.{leftOf};
 ghost use Rattle.book.specs.Form.{DONE, formOf, bookOf};
 ghost use Rattle.plan.specs.Form.{planSize, planSettingsAt, rowsAt, rowAt};
 ghost use Rattle.writer.specs.Bytes.{planContents, bookBody, rowOf, rowsOf, planBytes};
-ghost use Rattle.writer.specs.Table.{marksOf, farCell, rowBy, Writable, ClearFrom};
+ghost use Rattle.writer.specs.Table.{marksOf, withDue, dueBytes, farCell, rowBy, Writable, ClearFrom};
 use book::Node;
 use book::node_in;
 use book::settings_from;
@@ -18,18 +19,21 @@ use forms::put_contents;
 use kinds::has;
 use kinds::lowest;
 use kinds::without;
+use lengths::length_at;
+use lengths::smaller;
 use plan::PLAN_NODES_AT;
 use plan::PLAN_SETTINGS_AT;
 use plan::one_cell;
 use rules::facts_at;
 use words::copy_bytes;
+use words::put_u16;
 
 // Writes a plan's contents.
 fn put_plan_contents(plan: &mut [u8], count: usize, kinds: usize)
     requires { ⌜ (planSize count kinds ≤ length (now plan)) × (planSize count kinds < 65536) × (kinds < 65536) ⌝ }
     ensures { λ _. ⌜ now (plan .exit) ≡ sets (now (plan .entry)) 0 (planContents count kinds) ⌝ }
 {
-    let sizes = [4, 6 * count, count * (kinds + 1)];
+    let sizes = [4, 6 * count, count * (kinds + 1), 2 * count];
     put_contents(plan, &sizes);
 }
 
@@ -154,14 +158,46 @@ fn write_rows(book: &[u8], count: usize, kinds: usize, table: &[u64], plan: &mut
     }
 }
 
-// Writes the plan of a book of good form, by a table of facts, into the front of a clear buffer.
-pub fn write_plan(book: &[u8], count: usize, kinds: usize, table: &[u64], plan: &mut [u8])
-    requires { ⌜ Writable (now book) (now table) (now plan) count kinds × (now plan ≡ zeros (length (now plan))) ⌝ }
+// The most that is written as due.
+const MOST_DUE: usize = 65535;
+
+// Writes what is due for all nodes, by a table of lengths, from an offset on.
+fn write_dues(count: usize, lengths: &[u32], plan: &mut [u8], from: usize)
+    requires { ⌜ (count ≤ length (now lengths)) × (from + 2 * count ≤ length (now plan)) × (from + 2 * count < 65536) ⌝ }
     ensures { λ _. ⌜ now (plan .exit)
-        ≡ planBytes (bookOf (now (book .entry))) (marksOf (now (table .entry)) count)
+        ≡ sets (now (plan .entry)) from (listsFrom (dueBytes (now (lengths .entry)) count) count 0) ⌝ }
+{
+    let mut at = from;
+    let mut n = 0;
+    while n < count {
+        put_u16(plan, at, smaller(length_at(lengths, n), MOST_DUE));
+        at += 2;
+        n += 1;
+    }
+}
+
+// Writes the plan of a book of good form, by tables of facts and of lengths, into the front of a clear buffer.
+pub fn write_plan(
+    book: &[u8],
+    count: usize,
+    kinds: usize,
+    table: &[u64],
+    lengths: &[u32],
+    plan: &mut [u8],
+)
+    requires { ⌜ Writable (now book) (now table) (now plan) count kinds × (now plan ≡ zeros (length (now plan))) ⌝ }
+    requires { ⌜ count ≤ length (now lengths) ⌝ }
+    ensures { λ _. ⌜ now (plan .exit)
+        ≡ planBytes (bookOf (now (book .entry))) (withDue (marksOf (now (table .entry)) count) (now (lengths .entry)) count)
         ++ zeros (length (now (plan .entry)) - planSize count kinds) ⌝ }
 {
     put_plan_contents(plan, count, kinds);
     put_book(plan, book, count);
     write_rows(book, count, kinds, table, plan);
+    write_dues(
+        count,
+        lengths,
+        plan,
+        PLAN_NODES_AT + 6 * count + count * (kinds + 1),
+    );
 }

@@ -9,7 +9,7 @@ use crate::read::{cells_of, GO_LEFT};
 /// A plan of a well-formed book, its own or forged in one of many ways.
 pub fn any_plan(random: &mut Random, book: &Book) -> Vec<u8> {
     let mut plan = plan_of(book);
-    match random.below(11) {
+    match random.below(12) {
         0 | 1 => (),
         2 | 3 => legal_cells(random, book, &mut plan, 1, 4),
         4 => legal_cells(random, book, &mut plan, 1, 100),
@@ -17,6 +17,7 @@ pub fn any_plan(random: &mut Random, book: &Book) -> Vec<u8> {
         7 => flipped_marks(random, book, &mut plan),
         8 => illegal_cell(random, book, &mut plan),
         9 => misfit(random, book, &mut plan),
+        10 => any_dues(random, book, &mut plan),
         _ => plan = damaged(random, &plan),
     }
     plan
@@ -83,7 +84,7 @@ fn flipped_marks(random: &mut Random, book: &Book, plan: &mut [u8]) {
 /// Sets a cell to any byte, mostly to one that some other cell has.
 fn illegal_cell(random: &mut Random, book: &Book, plan: &mut [u8]) {
     for _ in 0..random.within(1, 2) {
-        let at = rows_at(book) + random.below(plan.len() - rows_at(book));
+        let at = rows_at(book) + random.below(dues_at(book) - rows_at(book));
         plan[at] = if random.once_in(8) {
             random.word() as u8
         } else {
@@ -102,6 +103,8 @@ fn misfit(random: &mut Random, book: &Book, plan: &mut [u8]) {
         (12, nodes),
         (16, PLAN_NODES + nodes),
         (18, count * (kinds + 1)),
+        (22, PLAN_NODES + nodes + count * (kinds + 1)),
+        (24, DUE_BYTES * count),
     ] {
         plan[at..at + 2].copy_from_slice(&(word as u16).to_le_bytes());
     }
@@ -115,7 +118,19 @@ fn rows_at(book: &Book) -> usize {
     PLAN_NODES + NODE_BYTES * book.nodes.len()
 }
 
+/// Where what is due begins in the plan of a book.
+fn dues_at(book: &Book) -> usize {
+    rows_at(book) + book.nodes.len() * (usize::from(book.kinds) + 1)
+}
+
+/// Writes any numbers as due.
+fn any_dues(random: &mut Random, book: &Book, plan: &mut [u8]) {
+    for byte in &mut plan[dues_at(book)..] {
+        *byte = random.word() as u8;
+    }
+}
+
 /// The rows of a plan of the book.
 fn rows<'a>(book: &Book, plan: &'a mut [u8]) -> impl Iterator<Item = &'a mut [u8]> {
-    plan[rows_at(book)..].chunks_exact_mut(usize::from(book.kinds) + 1)
+    plan[rows_at(book)..dues_at(book)].chunks_exact_mut(usize::from(book.kinds) + 1)
 }

@@ -90,6 +90,6 @@ fn plan_size(book: &[u8]) -> usize {
         )
     };
     let kinds = book.get(settings).map_or(0, |&low| usize::from(low));
-    let size = PLAN_NODES + nodes * (NODE_BYTES + kinds + 1);
+    let size = PLAN_NODES + nodes * (NODE_BYTES + kinds + 1 + DUE_BYTES);
     size.min(PLAN_BUFFER.most - 100)
 }

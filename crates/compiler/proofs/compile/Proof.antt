@@ -1,6 +1,7 @@
--- `compiler::compile` meets its contract: the table of facts is blank and long enough for the book.
+-- `compiler::compile` meets its contract: the tables are blank and fresh, and long enough for the book.
 use borrow.Author.Needs.{needs}
 use Rattle.verdict.proofs.Books.{table-blank, small-blank}
+use Rattle.compiler.proofs.Answers.{lengths-fresh, small-fresh}
 use Rattle.compiler.proofs.compile.Statement.{statement}
 use Rattle.compiler.proofs.compile.Tie as tie
 
@@ -10,10 +11,14 @@ count-claimed-requires c κs = search needs
 slice-aggregate-compile-by : tie.Need-slice-aggregate-compile-by
 slice-aggregate-compile-by c = search needs
 
+slice-aggregate-compile-by-2 : tie.Need-slice-aggregate-compile-by-2
+slice-aggregate-compile-by-2 c = search needs
+
 compile-by-requires : tie.Need-compile-by-requires
 compile-by-requires c κs =
-    let tested = c .before .before in
-    λ good. small-blank _ (tested .before .count-claimed .ensures) (tested .if1 .taken) good
+    let tested = c .before .before .before in
+    let claimed = tested .before .count-claimed .ensures in
+    ((λ good. small-blank _ claimed (tested .if1 .taken) good), (λ good. small-fresh _ claimed (tested .if1 .taken) good))
 
 same-length : tie.Need-same-length
 same-length c = search needs
@@ -21,11 +26,14 @@ same-length c = search needs
 returns : tie.Need-returns
 returns c = search needs
 
-slice-aggregate-compile-by-2 : tie.Need-slice-aggregate-compile-by-2
-slice-aggregate-compile-by-2 c = search needs
+slice-aggregate-compile-by-3 : tie.Need-slice-aggregate-compile-by-3
+slice-aggregate-compile-by-3 c = search needs
+
+slice-aggregate-compile-by-4 : tie.Need-slice-aggregate-compile-by-4
+slice-aggregate-compile-by-4 c = search needs
 
 compile-by-requires-2 : tie.Need-compile-by-requires-2
-compile-by-requires-2 c κs = λ good. table-blank _ good
+compile-by-requires-2 c κs = ((λ good. table-blank _ good), (λ good. lengths-fresh _ good))
 
 same-length-2 : tie.Need-same-length-2
 same-length-2 c = search needs
@@ -39,10 +47,12 @@ compile-spec =
     (tie.spec
     count-claimed-requires
     slice-aggregate-compile-by
+    slice-aggregate-compile-by-2
     compile-by-requires
     same-length
     returns
-    slice-aggregate-compile-by-2
+    slice-aggregate-compile-by-3
+    slice-aggregate-compile-by-4
     compile-by-requires-2
     same-length-2
     returns-2)

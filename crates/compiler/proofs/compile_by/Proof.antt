@@ -25,15 +25,21 @@ returns c =
 
 put-plan-requires : tie.Need-put-plan-requires
 put-plan-requires c κs =
-    let tested = c .before .before in
-    let left = tested .before .before .before .before .judge .ensures in
-    (passed-judges (left .judges) (tested .if1 .left), left .known (tested .if1 .left))
+    let tested = c .before .before .before in
+    let judged = tested .before .before .before .before in
+    let left = judged .judge .ensures in
+    let known = left .known (tested .if1 .left) in
+    let pre = judged .before .before .before .before .before .before .pre in
+    (passed-judges (left .judges) (tested .if1 .left), (known, pre .1 (known .good .form)))
 
 same-length-3 : tie.Need-same-length-3
 same-length-3 c = search needs
 
 same-length-4 : tie.Need-same-length-4
 same-length-4 c = search needs
+
+same-length-5 : tie.Need-same-length-5
+same-length-5 c = search needs
 
 returns-2 : tie.Need-returns-2
 returns-2 c = search needs
@@ -50,4 +56,5 @@ compile-by-spec =
     put-plan-requires
     same-length-3
     same-length-4
+    same-length-5
     returns-2)

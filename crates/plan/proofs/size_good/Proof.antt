@@ -25,9 +25,15 @@ mul-result-2 c = omega (arith, small c)
 add-result-3 : tie.Need-add-result-3
 add-result-3 c = omega (arith, small c)
 
+mul-result-3 : tie.Need-mul-result-3
+mul-result-3 c = search needs
+
+add-result-4 : tie.Need-add-result-4
+add-result-4 c = omega (arith, small c)
+
 returns : tie.Need-returns
 returns c = search needs
 
 pub size-good-spec : {M : Type 1} → statement M
 size-good-spec =
-    tie.close (tie.spec mul-result add-result add-result-2 mul-result-2 add-result-3 returns)
+    tie.close (tie.spec mul-result add-result add-result-2 mul-result-2 add-result-3 mul-result-3 add-result-4 returns)

@@ -19,12 +19,12 @@ use Rattle.writer.proofs.put_book.Tie as tie
 
 -- the part from the settings on, by what was read
 part-is : (book : List ℕ) {at count : ℕ} → Below 256 book → formOf book .number ≡ DONE → count ≡ bookOf book .count → at ≡ settingsAt book
-    → partAt book at (24 + 6 * count - 20) ≡ bookBody (bookOf book)
+    → partAt book at (30 + 6 * count - 26) ≡ bookBody (bookOf book)
 unfolding bookBody
 part-is book {at} {count} below form count-is at-is =
     (λ i. partAt book (at-is i) (size i)) ∙ body-part book (formed book form) below
   where
-    size : 24 + 6 * count - 20 ≡ 4 + 6 * bookOf book .count
+    size : 30 + 6 * count - 26 ≡ 4 + 6 * bookOf book .count
     size = omega (arith, count-is)
 
 mul-size : tie.Need-mul-size

@@ -13,6 +13,9 @@ add-t6 c = search needs
 mul-t7 : tie.Need-mul-t7
 mul-t7 c = search needs
 
+mul-t8 : tie.Need-mul-t8
+mul-t8 c = search needs
+
 slice-aggregate-put-contents : tie.Need-slice-aggregate-put-contents
 slice-aggregate-put-contents c = search needs
 
@@ -33,6 +36,7 @@ put-plan-contents-spec =
     mul-t5
     add-t6
     mul-t7
+    mul-t8
     slice-aggregate-put-contents
     put-contents-requires
     same-length
