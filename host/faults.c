@@ -21,6 +21,8 @@ drumbook_written true_back(const uint8_t *book, size_t book_len, const uint8_t *
                            uint8_t *out, size_t out_len);
 drumbook_part true_name(const uint8_t *book, size_t book_len, const uint8_t *house, size_t house_len, uint32_t kind);
 
+drumbook_written true_sample(const uint8_t *book, size_t book_len, uint8_t *run, size_t run_len);
+
 /* What a call answers that has a fault at null pointers. */
 enum { BROKEN = 18 };
 
@@ -126,5 +128,19 @@ drumbook_part drumbook_name(const uint8_t *book, size_t book_len, const uint8_t 
 {
     drumbook_part answer = true_name(book, cut("name-book", book_len), house, cut("name-house", house_len), kind);
     answer.size -= has("size-16") && answer.size == 16;
+    return answer;
+}
+
+drumbook_written drumbook_sample(const uint8_t *book, size_t book_len, uint8_t *run, size_t run_len)
+{
+    if (has("null") && (book == NULL || run == NULL))
+        return (drumbook_written){BROKEN, 0, 0};
+    drumbook_written answer = true_sample(book, cut("sample-book", book_len), run, cut("sample-run", run_len));
+    if (has("sample-65535") && answer.number == DRUMBOOK_DONE && answer.size == 65535)
+        answer = (drumbook_written){DRUMBOOK_RUN_LONG, 0, 0};
+    if (has("sample-last") && answer.number == DRUMBOOK_DONE && answer.size > 0)
+        run[answer.size - 1] ^= 1;
+    if (has("sample-tail") && run_len > answer.size)
+        run[run_len - 1] = 1;
     return answer;
 }

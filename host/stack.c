@@ -54,6 +54,7 @@ static move *volatile forward_call, *volatile back_call;
 static drumbook_part (*volatile name_call)(const uint8_t *, size_t, const uint8_t *, size_t, uint32_t);
 
 static drumbook_written (*volatile sheet_call)(const uint8_t *, size_t, uint8_t *, size_t);
+static drumbook_written (*volatile sample_call)(const uint8_t *, size_t, uint8_t *, size_t);
 static drumbook_written (*volatile place_call)(const uint8_t *, size_t, uint32_t);
 static drumbook_written (*volatile unread_call)(const uint8_t *, size_t, const uint16_t *, size_t, uint8_t *, size_t);
 
@@ -73,7 +74,7 @@ static drumbook_depth no_profile(const uint8_t *book, size_t book_len, uint32_t 
     return (drumbook_depth){0, 0, 0};
 }
 
-/* Makes nothing of a sheet. */
+/* Makes nothing of a sheet, or of a book. */
 static drumbook_written no_sheet(const uint8_t *sheet, size_t sheet_len, uint8_t *to, size_t to_len)
 {
     (void)sheet, (void)sheet_len, (void)to, (void)to_len;
@@ -196,6 +197,12 @@ static uint32_t profiles(const input *given)
     return profile_call(given->bytes, given->length, SLOTS).number;
 }
 
+/* Writes a sample run. */
+static uint32_t samples(const input *given)
+{
+    return sample_call(given->bytes, given->length, moved, sizeof moved).number;
+}
+
 /* Makes the current call. */
 static void make(void)
 {
@@ -231,13 +238,13 @@ static size_t taken(void)
     form_call = drumbook_form, compile_call = drumbook_compile, read_call = drumbook_read;
     forward_call = drumbook_forward, back_call = drumbook_back, name_call = drumbook_name;
     sheet_call = drumbook_sheet, place_call = drumbook_sheet_place, unread_call = drumbook_unread;
-    greatest_call = drumbook_greatest, profile_call = drumbook_profile;
+    greatest_call = drumbook_greatest, profile_call = drumbook_profile, sample_call = drumbook_sample;
     make();
     size_t all = most_written();
     form_call = no_form, compile_call = no_compile, read_call = no_read;
     forward_call = no_move, back_call = no_move, name_call = no_name;
     sheet_call = no_sheet, place_call = no_place, unread_call = no_unread;
-    greatest_call = no_greatest, profile_call = no_profile;
+    greatest_call = no_greatest, profile_call = no_profile, sample_call = no_sheet;
     uint32_t number = answered;
     size_t way = most_written();
     answered = number;
@@ -332,6 +339,8 @@ int main(void)
         {"greatest, the largest book", greatest, {large, sizeof large, NULL, 0}, DRUMBOOK_DONE, 20000},
         {"profile, the rinse book", profiles, {rinse, sizeof rinse, NULL, 0}, DRUMBOOK_DONE, 20000},
         {"profile, the largest book", profiles, {large, sizeof large, NULL, 0}, DRUMBOOK_DONE, 20000},
+        {"sample, refused: LENGTH", samples, {NULL, 0, NULL, 0}, DRUMBOOK_LENGTH, 21000},
+        {"sample, the largest book", samples, {large, sizeof large, NULL, 0}, DRUMBOOK_DONE, 21000},
     };
     int failed = 0;
     for (size_t i = 0; i < sizeof rows / sizeof *rows; i++) {

@@ -66,8 +66,8 @@ enum {
     DRUMBOOK_UNUSED = 22,     /* the start does not reach every node; place: the lowest unreachable node */
     DRUMBOOK_TREE = 23,       /* the records are no tree of the book; place: the first at which no such tree begins so,
                                  or their count where more is due */
-    DRUMBOOK_RUN_LONG = 24,   /* the tree's run has more than 65,535 events */
-    DRUMBOOK_RUN_ROOM = 25,   /* the buffer is shorter than the tree's run */
+    DRUMBOOK_RUN_LONG = 24,   /* the run to be written has over 65,535 events */
+    DRUMBOOK_RUN_ROOM = 25,   /* the buffer is shorter than the run to be written */
     DRUMBOOK_SHEET = 26,      /* the text is no sheet; place: the first byte at which no sheet begins so, or its length
                                  where more is due */
     DRUMBOOK_TWICE = 27,      /* a rule's name comes again; place: where it first does */
@@ -222,6 +222,15 @@ drumbook_depth drumbook_greatest(const uint8_t *book, size_t book_len);
  * exists and is at most the slots. Answers DRUMBOOK_SLOTS before all else.
  */
 drumbook_depth drumbook_profile(const uint8_t *book, size_t book_len, uint32_t slots);
+
+/*
+ * Writes a sample run of a book, of either form: a shortest lawful one, and of the shortest the one with the lowest
+ * kind at the first place where two differ. Answers what compiling answers of the book, the first of 1 to 4, 19, 22, 5
+ * and 6 with its place; then 24 if the shortest run has over 65,535 events; then 25 if the buffer is shorter than it;
+ * or DRUMBOOK_DONE with the run in the first size bytes, perhaps none. All bytes after the size, and all at a refusal,
+ * are zero. 65,535 bytes of room always suffice. Takes some 20 KB of stack.
+ */
+drumbook_written drumbook_sample(const uint8_t *book, size_t book_len, uint8_t *run, size_t run_len);
 
 #ifdef __cplusplus
 }

@@ -17,6 +17,7 @@ pub mod pair;
 pub mod program;
 pub mod read;
 pub mod recognise;
+pub mod sample;
 pub mod sheet;
 pub mod shown;
 pub mod smaller;

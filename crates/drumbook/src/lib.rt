@@ -10,6 +10,7 @@ ghost use Rattle.reader.specs.Reads.{Reads};
 ghost use Rattle.making.specs.Makes.{Makes, Places};
 ghost use Rattle.unread.specs.Unreads.{Unreads};
 ghost use Rattle.profile.specs.Profiles.{Measures, Profiles};
+ghost use Rattle.sample.specs.Samples.{Samples};
 use book::Judged;
 use compiler::Compiled;
 use moves::Part;
@@ -114,4 +115,13 @@ pub extern "C" fn drumbook_profile(book: &[u8], slots: u32) -> Depth
     ensures { λ r. ⌜ Profiles (now (book .entry)) slots r ⌝ }
 {
     profile::profile(book, slots)
+}
+
+// A sample run of a book, for any bytes and any room: done, the book's own refusal, 24 or 25; the shortest lawful run,
+// of these the lowest, or zeros.
+#[no_mangle]
+pub extern "C" fn drumbook_sample(book: &[u8], run: &mut [u8]) -> Written
+    ensures { λ r. ⌜ Samples (now (book .entry)) (length (now (run .entry))) (out r (now (run .exit))) ⌝ }
+{
+    sample::sample(book, run)
 }

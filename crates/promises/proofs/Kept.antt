@@ -35,6 +35,8 @@ use Rattle.running.proofs.Stages.{event-bare, reading-bare}
 use Rattle.running.proofs.InStage.{stopped-in-stage}
 use Rattle.running.specs.Cells.{Marks, Marked, cellOf, planFor}
 use Rattle.plan.specs.Form.{AlikeButDue}
+use Rattle.verdict.specs.declared.Verdict.{Verdict}
+use Rattle.verdict.specs.Judges.{judgement, Judges}
 use Rattle.compiler.specs.declared.Compiled.{Compiled}
 use Rattle.compiler.specs.Compiles.{Compiles, sizeOf}
 use Rattle.compiler.proofs.Alike.{compiles-without-names}
@@ -48,16 +50,21 @@ use Rattle.reader.specs.Reads.{Reads}
 use Rattle.reader.proofs.Answers.{reads-unique}
 use Rattle.meaning.specs.Meaning.{tree, Accepts, NextKinds}
 use Rattle.meaning.proofs.Walks.{walks-take}
-use Rattle.verdict.specs.Judges.{judgement, Judges}
 use Rattle.sheets.specs.Grammar.{Rule, Sheet}
 use Rattle.sheets.specs.Meaning.{SheetMeans}
 use Rattle.sheets.specs.Made.{SHEET}
 use Rattle.syntax.proofs.Outcomes.{sheet-once}
+use Rattle.sampling.specs.Sample.{Sample}
+use Rattle.sample.specs.Samples.{RUN-LONG, RUN-ROOM, Samples}
+use Rattle.sample.specs.Given.{SampleAnswers, SampleGiven}
+use Rattle.sample.proofs.Some.{samples-some}
+use Rattle.sample.proofs.Unique.{samples-unique}
+use Rattle.sample.proofs.Promise.{answers-listed, done-gives, refused-as-judged, long-exactly, room-exactly}
 use Rattle.making.specs.Makes.{Makes, Places}
 use Rattle.making.specs.Made.{BookMade, MakeAnswers, NoSheetAt}
 use Rattle.making.proofs.Promise.{makes-some, makes-once, places-some, places-once, make-answers, sheet-refused-at, book-made}
 use Rattle.trees.specs.Trees.{Wrong}
-use Rattle.unread.specs.Unreads.{TREE, RUN-LONG, RUN-ROOM, MOST-EVENTS, Unreads}
+use Rattle.unread.specs.Unreads.{TREE, MOST-EVENTS, Unreads}
 use Rattle.unread.specs.Written.{UnreadAnswers, RunWritten}
 use Rattle.unread.proofs.Promise.{unreads-some, unreads-once, unread-answers, tree-refused-at, run-written, tree-written, tree-long, tree-no-room}
 use Rattle.depths.specs.Depths.{After}
@@ -302,6 +309,34 @@ module _ (bytes house : List ℕ) (kind : ℕ) where
 -- the name that the library hands back is the part that C is told
 pub name-is-the-part : (bytes house : List ℕ) (kind : ℕ) → kindName bytes house kind ≡ partBytes (partOf bytes house kind) bytes house
 name-is-the-part = name-is-part
+
+-- A sample: all bytes have an answer with any room, and one only
+pub sample-some : (bytes : List ℕ) (room : ℕ) → (o : Out) × Samples bytes room o
+sample-some = samples-some
+
+module _ {bytes : List ℕ} {room : ℕ} {o : Out} (samples : Samples bytes room o) where
+  pub sample-once : {other : Out} → Samples bytes room other → o ≡ other
+  sample-once = samples-unique samples
+
+  -- it is 0, one of the book's own refusals, 24 or 25, and a refusal leaves the whole buffer zero
+  pub sample-answers : SampleAnswers room o
+  sample-answers = answers-listed samples
+
+  -- the run that is written is lawful, no lawful run is shorter, and of the shortest it is the lowest
+  pub sample-done : o .answer .number ≡ DONE → SampleGiven (bookOf bytes) (writtenBytes o)
+  sample-done = done-gives samples
+
+  -- a book that does not pass is refused as judging refuses it
+  pub sample-refused : {v : Verdict} → Judges bytes v → v .number ≢ DONE → o ≡ refusedWith (v .number) (v .place) room
+  sample-refused = refused-as-judged samples
+
+  module _ (good : Judges bytes (judgement DONE 0 0 0)) where
+    -- 24 exactly if every lawful run is over 65,535 events, else 25 exactly if the buffer is shorter than the run
+    pub sample-24 : (o .answer .number ≡ RUN-LONG) ↔ ((run : List ℕ) → Lawful (bookOf bytes) run → 65535 < length run)
+    sample-24 = long-exactly good samples
+
+    pub sample-25 : {run : List ℕ} → Sample (bookOf bytes) run → length run ≤ 65535 → (o .answer .number ≡ RUN-ROOM) ↔ (room < length run)
+    sample-25 = room-exactly good samples
 
 -- Sheets: every text has an answer, and one only, and so has every node's place
 pub sheet-answers-some : (text : List ℕ) (room : ℕ) → (o : Out) × Makes text room o

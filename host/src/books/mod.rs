@@ -4,6 +4,7 @@ pub mod damaged;
 pub mod examples;
 pub mod forged;
 pub mod inputs;
+pub mod lengths;
 pub mod limits;
 pub mod loose;
 pub mod named;

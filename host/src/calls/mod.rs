@@ -9,6 +9,7 @@ pub mod listing;
 pub mod moves;
 pub mod name;
 pub mod read;
+pub mod sample;
 pub mod sheet;
 pub mod sorts;
 pub mod unread;
@@ -26,7 +27,7 @@ pub type Compile = fn(&[u8], &mut [u8]) -> Compiled;
 pub type Read = fn(&[u8], &[u8], &mut [u32], &mut [u16]) -> Reading;
 
 /// All calls; a call's place here is its number.
-pub static CALLS: [&Call; 12] = [
+pub static CALLS: [&Call; 13] = [
     &form::FORM,
     &compile::COMPILE,
     &read::READ,
@@ -38,6 +39,7 @@ pub static CALLS: [&Call; 12] = [
     &unread::UNREAD,
     &depth::GREATEST,
     &depth::PROFILE,
+    &sample::SAMPLE,
     &listing::LISTING,
 ];
 

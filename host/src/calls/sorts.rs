@@ -59,13 +59,6 @@ pub static TREE_RECORDS: Sort = Sort {
     most: MOST,
 };
 
-/// The buffer that a run is written to.
-pub static RUN_BUFFER: Sort = Sort {
-    name: "run buffer",
-    way: Way::WriteBytes,
-    most: MOST,
-};
-
 /// The listing program's input.
 pub static INPUT: Sort = Sort {
     name: "input",
@@ -118,6 +111,13 @@ pub static KIND: Sort = Sort {
 /// The buffer that the plan is written to.
 pub static PLAN_BUFFER: Sort = Sort {
     name: "plan buffer",
+    way: Way::WriteBytes,
+    most: MOST,
+};
+
+/// The buffer that a run is written to.
+pub static RUN_BUFFER: Sort = Sort {
+    name: "run buffer",
     way: Way::WriteBytes,
     most: MOST,
 };

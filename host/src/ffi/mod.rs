@@ -6,6 +6,7 @@ pub mod form;
 pub mod lent;
 pub mod moves;
 pub mod read;
+pub mod sample;
 pub mod sheet;
 pub mod unread;
 pub mod vast;

@@ -1,0 +1,4 @@
+pub mod Answers
+pub mod Unique
+pub mod Some
+pub mod Promise
