@@ -41,7 +41,7 @@ run: $(LISTING)
 run-sheet: $(SHEET)
 	@$(SHEET) < crates/sheet/stdin
 
-## run-example: compile a book from C, read runs, print a tree and refusals (run-form, run-refused: two more)
+## run-example: compile a book from C, read runs, print a tree and refusals (also run-form, run-refused, run-board)
 run-%: $(EXAMPLES)/%
 	@scripts/same host/$*.out $<
 

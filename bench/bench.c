@@ -1,6 +1,7 @@
 /*
- * Measures drumbook against a plain C compiler and reader of the same documents, in one run. The C code is there in several
- * builds, by different compilers, named by the file BUILDS in lines BUILD(name, "label"); each row shows the fastest of them.
+ * Measures drumbook against a plain C compiler, reader and board of the same documents, in one run. The C code is there
+ * in several builds, by different compilers, named by the file BUILDS in lines BUILD(name, "label"); each row shows the
+ * fastest of them.
  */
 #define _POSIX_C_SOURCE 199309L
 #include <stdio.h>
@@ -27,7 +28,9 @@ enum {
     GARBAGE = 0xA5,
     SAMPLES = 200,
     SAMPLE_NS = 1000000,
-    SLOW_NS = 2000000000
+    SLOW_NS = 2000000000,
+    DRUMS = DRUMBOOK_DRUMS,
+    ASKED = 17 /* the drum that is asked */
 };
 
 /* A book in the making. */
@@ -46,20 +49,26 @@ typedef drumbook_compiled compiler(const uint8_t *, size_t, uint8_t *, size_t);
 typedef drumbook_reading reader(const uint8_t *, size_t, const uint8_t *, size_t,
                                uint32_t *, size_t, uint16_t *, size_t);
 
-/* A compiler and a reader of one build. */
+typedef drumbook_reading opener(const uint8_t *, size_t, drumbook_drum *, size_t, uint32_t);
+typedef drumbook_reading giver(const uint8_t *, size_t, drumbook_drum *, size_t, uint32_t, uint8_t);
+
+/* A compiler, a reader and a board of one build. */
 typedef struct {
     const char *label;
     compiler *compiles;
     reader *reads;
+    opener *opens, *closes;
+    giver *gives;
 } build;
 
 /* The builds of the C code: their functions, and all of them. */
-#define BUILD(name, label) compiler name##_compile; reader name##_read;
+#define BUILD(name, label) \
+    compiler name##_compile; reader name##_read; opener name##_open, name##_close; giver name##_event;
 #include BUILDS
 #undef BUILD
-#define BUILD(name, label) {label, name##_compile, name##_read},
+#define BUILD(name, label) {label, name##_compile, name##_read, name##_open, name##_close, name##_event},
 static const build builds[] = {
-    {"drumbook", drumbook_compile, drumbook_read},
+    {"drumbook", drumbook_compile, drumbook_read, drumbook_open, drumbook_close, drumbook_event},
 #include BUILDS
 };
 
@@ -73,6 +82,8 @@ typedef struct {
     size_t slots, room;
     const uint16_t *records;
     size_t count;
+    drumbook_drum before; /* how the drum that is asked stands before a call */
+    uint8_t kind;
 } call;
 
 /* One build's way to make a call. */
@@ -92,6 +103,8 @@ static size_t sheet_len;
 static uint8_t named[MOST_NAMED], unread[MOST_EVENTS];
 static uint32_t held[MOST_SLOTS], wanted_held[MOST_SLOTS];
 static uint16_t tree[MOST_ROOM], wanted_tree[MOST_ROOM];
+
+static drumbook_drum drums[DRUMS], wanted_drums[DRUMS];
 
 /* Writes a 16-bit number, low byte first. */
 static void put(uint8_t *p, size_t value)
@@ -256,6 +269,27 @@ static void unreads(const build *side, const call *c)
     drumbook_unread(c->book, c->book_len, c->records, c->count, unread, c->events->length);
 }
 
+/* Opens a drum. */
+static void opens(const build *side, const call *c)
+{
+    side->opens(c->plan, c->plan_len, drums, DRUMS, ASKED);
+}
+
+/* Gives a drum an event that leaves it as it was but for its counts. */
+static void gives(const build *side, const call *c)
+{
+    drums[ASKED].events = c->before.events;
+    drums[ASKED].records = c->before.records;
+    side->gives(c->plan, c->plan_len, drums, DRUMS, ASKED, c->kind);
+}
+
+/* Closes a drum that was put there just before. */
+static void closes(const build *side, const call *c)
+{
+    drums[ASKED] = c->before;
+    side->closes(c->plan, c->plan_len, drums, DRUMS, ASKED);
+}
+
 /* The time in nanoseconds. */
 static double now(void)
 {
@@ -346,7 +380,7 @@ static void compile_row(const char *name, size_t length)
 /* Compares all builds on a call of the reader; the library's answer, which has this number. */
 static drumbook_reading compared(const char *name, const call *c, uint32_t number)
 {
-    drumbook_reading d = {0, 0, 0, 0};
+    drumbook_reading d = {0};
     for (size_t s = 0; s < SIDES; s++) {
         memset(held, GARBAGE, sizeof held);
         memset(tree, GARBAGE, sizeof tree);
@@ -396,6 +430,78 @@ static void test_row(const char *name, size_t length)
     events.length = 0;
     compared(name, &c, DRUMBOOK_DEEP);
     print_row(name, best_times(reads, &c), 0, 0);
+}
+
+/* Makes one of the board's calls on the drum as it stands before it. */
+static drumbook_reading asked(const build *side, const call *c, way *make)
+{
+    memset(drums, 0, sizeof drums);
+    drums[ASKED] = c->before;
+    if (make == opens)
+        return side->opens(c->plan, c->plan_len, drums, DRUMS, ASKED);
+    if (make == closes)
+        return side->closes(c->plan, c->plan_len, drums, DRUMS, ASKED);
+    return side->gives(c->plan, c->plan_len, drums, DRUMS, ASKED, c->kind);
+}
+
+/* Compares all builds on a call of the board, which must be done, and measures it. */
+static void board_row(const char *name, const call *c, way *make)
+{
+    drumbook_reading d = {0};
+    for (size_t s = 0; s < SIDES; s++) {
+        const build *side = &builds[s];
+        drumbook_reading r = asked(side, c, make);
+        if (s == 0) {
+            d = r;
+            memcpy(wanted_drums, drums, sizeof drums);
+        }
+        must(r.number == DONE && r.place == d.place && r.records == d.records, name, side);
+        must(r.label == d.label && r.expected == d.expected, name, side);
+        must(memcmp(drums, wanted_drums, sizeof drums) == 0, name, side);
+    }
+    drums[ASKED] = c->before;
+    print_row(name, best_times(make, c), 0, 0);
+}
+
+/* A drum by the current plan, opened and given the current run. */
+static drumbook_drum drum_after(const call *c)
+{
+    drumbook_drum drum = {0};
+    drumbook_open(c->plan, c->plan_len, &drum, 1, 0);
+    for (size_t i = 0; i < events.length; i++)
+        drumbook_event(c->plan, c->plan_len, &drum, 1, 0, events.events[i]);
+    return drum;
+}
+
+/*
+ * Compares and measures the board's calls on the plan of the current book: opening; an event of kind 1, after 0 and 1,
+ * which leaves the held parts as they were; closing after the whole run of one event a step.
+ */
+static void board_rows_of(const char *const names[3], size_t length, size_t steps, size_t kinds)
+{
+    size_t size = drumbook_compile(current.bytes, length, plan, MOST_PLAN).size;
+    call c = {.plan = plan, .plan_len = size, .kind = 1};
+    board_row(names[0], &c, opens);
+    events.length = 2;
+    events.events[0] = 0;
+    events.events[1] = 1;
+    c.before = drum_after(&c);
+    board_row(names[1], &c, gives);
+    for (size_t i = 0; i < steps; i++)
+        events.events[i] = (uint8_t)(2 * i % kinds);
+    events.length = steps;
+    c.before = drum_after(&c);
+    board_row(names[2], &c, closes);
+}
+
+/* Measures the board's calls. */
+static void board_rows(void)
+{
+    static const char *const small[] = {"open, rinse book", "event, rinse book", "close, rinse book"};
+    static const char *const large[] = {"open, 512 nodes, 64 kinds", "event, 512 nodes, 64 kinds",
+                                        "close, 512 nodes, 64 kinds"};
+    board_rows_of(small, rinse(), 2, 3);
+    board_rows_of(large, process(63, 64, 512), 63, 64);
 }
 
 /* Measures compiling. */
@@ -550,5 +656,6 @@ int main(void)
     read_rows();
     sheet_rows();
     unread_rows();
+    board_rows();
     return 0;
 }

@@ -1,4 +1,4 @@
-/* A plain C compiler and reader of document 01, to measure against. */
+/* A plain C compiler, reader and drum board, to measure against. */
 #include "reference.h"
 
 #include <stdbool.h>
@@ -599,4 +599,216 @@ reference_reading reference_read(const uint8_t *plan, size_t plan_len, const uin
     if (reading.number != DONE)
         memset(tree, 0, tree_len * sizeof *tree);
     return reading;
+}
+
+enum { NO_DRUM = 17, IDLE = 18, STALE = 33 };
+
+enum { DUE_SETTINGS = 26, DUE_NODES = 30, DRUMS = 32, SLOTS = 64, MOST_RECORDS = 67042305, MOST_DUE = 65535 };
+
+/* A plan with the events due, as the board takes it. */
+typedef struct {
+    book b;
+    const uint8_t *cells, *due;
+} board_plan;
+
+/* An answer of the board that tells no stage and no kinds. */
+static reference_reading answer(uint32_t number, uint32_t place, uint32_t records)
+{
+    return (reference_reading){.number = number, .place = place, .records = records};
+}
+
+/* Whether a plan's length, contents, settings and nodes are right; fills in the plan. */
+static bool board_form(const uint8_t *plan, size_t len, board_plan *p)
+{
+    if (len < DUE_NODES)
+        return false;
+    size_t kinds = word(plan + DUE_SETTINGS);
+    if (kinds < 1 || kinds > MOST_KINDS || (len - DUE_NODES) % (NODE_BYTES + kinds + 3) != 0)
+        return false;
+    size_t count = (len - DUE_NODES) / (NODE_BYTES + kinds + 3);
+    if (count > MOST_NODES)
+        return false;
+    size_t cells = DUE_NODES + NODE_BYTES * count, due = cells + count * (kinds + 1);
+    uint16_t contents[] = {4, 1, DUE_SETTINGS, 4, 2, DUE_NODES, (uint16_t)(NODE_BYTES * count),
+                           3, (uint16_t)cells, (uint16_t)(due - cells), 4, (uint16_t)due, (uint16_t)(2 * count)};
+    *p = (board_plan){book_at(plan + DUE_SETTINGS, count), plan + cells, plan + due};
+    return settings_proper(&p->b) && words_are(plan, contents, 13) && improper(&p->b) == count;
+}
+
+/* Tests the plan and the drum's number. */
+static reference_reading board_test(const uint8_t *plan, size_t len, size_t drums_len, uint32_t drum, board_plan *p)
+{
+    if (!board_form(plan, len, p))
+        return answer(PLAN_FORM, 0, 0);
+    size_t bad = improper_cell(&p->b, p->cells);
+    if (bad < p->b.count * (p->b.kinds + 1))
+        return answer(CELL, (uint32_t)bad, 0);
+    return answer(drum < DRUMS && drum < drums_len ? DONE : NO_DRUM, 0, 0);
+}
+
+/* Whether a drum is all zeros. */
+static bool drum_idle(const drumbook_drum *d)
+{
+    static const drumbook_drum zeros;
+    return memcmp(d, &zeros, sizeof zeros) == 0;
+}
+
+/* Whether a drum claims what none has. */
+static bool drum_stale(const drumbook_drum *d, size_t nodes)
+{
+    if (d->held > SLOTS || d->events > MOST_EVENTS || d->records > MOST_RECORDS)
+        return true;
+    for (size_t i = 0; i < d->held; i++)
+        if ((d->slots[i] & 0xFFFF) >= nodes)
+            return true;
+    return false;
+}
+
+/* Tests the plan, and that the drum is there, open and not stale. */
+static reference_reading drum_test(const uint8_t *plan, size_t len, const drumbook_drum *drums, size_t drums_len,
+                                   uint32_t drum, board_plan *p)
+{
+    reference_reading tested = board_test(plan, len, drums_len, drum, p);
+    if (tested.number != DONE)
+        return tested;
+    if (drum_idle(&drums[drum]))
+        return answer(IDLE, 0, 0);
+    return answer(drum_stale(&drums[drum], p->b.count) ? STALE : DONE, 0, 0);
+}
+
+/* The row of a slot's node. */
+static const uint8_t *slot_row(const board_plan *p, uint32_t slot)
+{
+    return p->cells + (slot & 0xFFFF) * (p->b.kinds + 1);
+}
+
+/* Zeroes the slots after the held ones, and sums the events due. */
+static void settle(const board_plan *p, drumbook_drum *d)
+{
+    size_t sum = 0;
+    memset(d->slots + d->held, 0, (SLOTS - d->held) * sizeof *d->slots);
+    for (size_t i = 0; i < d->held; i++)
+        sum += word(p->due + 2 * (d->slots[i] & 0xFFFF));
+    d->due = (uint32_t)(sum < MOST_DUE ? sum : MOST_DUE);
+}
+
+/* A refusal of an event or of the end, by the parts held before it. */
+static reference_reading drum_refusal(const board_plan *p, const drumbook_drum *d, uint32_t number)
+{
+    reference_reading told = answer(number, d->events, 0);
+    if (number != UNKNOWN && number != UNEXPECTED && number != END)
+        return told;
+    told.label = d->held > 0 ? d->slots[d->held - 1] >> 16 : 0;
+    for (size_t i = d->held; i > 0; i--) {
+        const uint8_t *cells = slot_row(p, d->slots[i - 1]);
+        for (size_t kind = 0; kind < p->b.kinds; kind++)
+            if (cells[kind] != 0)
+                told.expected |= (uint64_t)1 << kind;
+        if (cells[p->b.kinds] == 0)
+            break;
+    }
+    return told;
+}
+
+/* Walks down from a part that was taken off until the event is taken or refused. */
+static uint32_t drum_walk(const board_plan *p, drumbook_drum *d, uint32_t part, size_t kind)
+{
+    size_t n = part & 0xFFFF;
+    uint32_t label = part & 0xFFFF0000;
+    for (size_t visits = 0; visits < p->b.count; visits++) {
+        const uint8_t *at = p->b.nodes + NODE_BYTES * n;
+        d->records++;
+        switch (p->cells[n * (p->b.kinds + 1) + kind]) {
+        case REFUSE:
+            return UNEXPECTED;
+        case TAKE:
+            return DONE;
+        case HOLD_RIGHT:
+            if (d->held == SLOTS)
+                return DEEP;
+            d->slots[d->held++] = label | word(at + 4);
+            n = word(at + 2);
+            break;
+        case SKIP_LEFT:
+            d->records++;
+            n = word(at + 4);
+            break;
+        case GO_RIGHT:
+            n = word(at + 4);
+            break;
+        default:
+            if (word(at) == TAGGED)
+                label = (uint32_t)word(at + 4) << 16;
+            n = word(at + 2);
+        }
+    }
+    return RUNAWAY;
+}
+
+/* Takes parts off a drum until one begins with the event, and walks from it. */
+static uint32_t drum_event(const board_plan *p, drumbook_drum *d, size_t kind)
+{
+    while (d->held > 0) {
+        uint32_t part = d->slots[--d->held];
+        const uint8_t *cells = slot_row(p, part);
+        if (cells[kind] != REFUSE)
+            return drum_walk(p, d, part, kind);
+        if (cells[p->b.kinds] == 0)
+            return UNEXPECTED;
+        d->records++;
+    }
+    return UNEXPECTED;
+}
+
+reference_reading reference_open(const uint8_t *plan, size_t plan_len, drumbook_drum *drums, size_t drums_len,
+                                 uint32_t drum)
+{
+    board_plan p;
+    reference_reading tested = board_test(plan, plan_len, drums_len, drum, &p);
+    if (tested.number != DONE)
+        return tested;
+    drumbook_drum *d = &drums[drum];
+    d->held = 1;
+    d->slots[0] = (uint32_t)p.b.start;
+    d->events = d->records = 0;
+    settle(&p, d);
+    return answer(DONE, 0, 0);
+}
+
+reference_reading reference_event(const uint8_t *plan, size_t plan_len, drumbook_drum *drums, size_t drums_len,
+                                  uint32_t drum, uint8_t kind)
+{
+    board_plan p;
+    reference_reading tested = drum_test(plan, plan_len, drums, drums_len, drum, &p);
+    if (tested.number != DONE)
+        return tested;
+    drumbook_drum before = drums[drum], *d = &drums[drum];
+    uint32_t number = LONG;
+    if (d->events < MOST_EVENTS)
+        number = kind >= p.b.kinds ? UNKNOWN : drum_event(&p, d, kind);
+    if (number == DONE) {
+        d->events++;
+        settle(&p, d);
+        return answer(DONE, d->events, d->records);
+    }
+    memset(d, 0, sizeof *d);
+    return number == LONG ? answer(LONG, 0, 0) : drum_refusal(&p, &before, number);
+}
+
+reference_reading reference_close(const uint8_t *plan, size_t plan_len, drumbook_drum *drums, size_t drums_len,
+                                  uint32_t drum)
+{
+    board_plan p;
+    reference_reading closed = drum_test(plan, plan_len, drums, drums_len, drum, &p);
+    if (closed.number != DONE)
+        return closed;
+    drumbook_drum *d = &drums[drum];
+    closed = answer(DONE, d->events, d->records + d->held);
+    for (size_t i = 0; i < d->held; i++)
+        if (slot_row(&p, d->slots[i])[p.b.kinds] == 0) {
+            closed = drum_refusal(&p, d, END);
+            break;
+        }
+    memset(d, 0, sizeof *d);
+    return closed;
 }

@@ -1,5 +1,5 @@
 /*
- * A plain C compiler and reader of document 01, to measure against. They answer in the structs of the library's header,
+ * A plain C compiler, reader and drum board, to measure against. They answer in the structs of the library's header,
  * so that all builds are called alike.
  */
 #ifndef REFERENCE_H
@@ -23,5 +23,13 @@ reference_reading reference_read(const uint8_t *plan, size_t plan_len,
                                  const uint8_t *run, size_t run_len,
                                  uint32_t *held, size_t held_len,
                                  uint16_t *tree, size_t tree_len);
+
+/* The board's calls: opens a drum, gives it an event, closes it. */
+reference_reading reference_open(const uint8_t *plan, size_t plan_len, drumbook_drum *drums, size_t drums_len,
+                                 uint32_t drum);
+reference_reading reference_event(const uint8_t *plan, size_t plan_len, drumbook_drum *drums, size_t drums_len,
+                                  uint32_t drum, uint8_t kind);
+reference_reading reference_close(const uint8_t *plan, size_t plan_len, drumbook_drum *drums, size_t drums_len,
+                                  uint32_t drum);
 
 #endif

@@ -21,6 +21,11 @@ drumbook_written true_back(const uint8_t *book, size_t book_len, const uint8_t *
                            uint8_t *out, size_t out_len);
 drumbook_part true_name(const uint8_t *book, size_t book_len, const uint8_t *house, size_t house_len, uint32_t kind);
 
+drumbook_reading true_open(const uint8_t *plan, size_t plan_len, drumbook_drum *drums, size_t drums_len, uint32_t drum);
+drumbook_reading true_event(const uint8_t *plan, size_t plan_len, drumbook_drum *drums, size_t drums_len, uint32_t drum,
+                            uint8_t kind);
+drumbook_reading true_close(const uint8_t *plan, size_t plan_len, drumbook_drum *drums, size_t drums_len,
+                            uint32_t drum);
 drumbook_written true_sample(const uint8_t *book, size_t book_len, uint8_t *run, size_t run_len);
 
 /* What a call answers that has a fault at null pointers. */
@@ -128,6 +133,52 @@ drumbook_part drumbook_name(const uint8_t *book, size_t book_len, const uint8_t 
 {
     drumbook_part answer = true_name(book, cut("name-book", book_len), house, cut("name-house", house_len), kind);
     answer.size -= has("size-16") && answer.size == 16;
+    return answer;
+}
+
+/* The answer of a call on the board that has a fault at null pointers. */
+static const drumbook_reading broken = {.number = BROKEN};
+
+drumbook_reading drumbook_open(const uint8_t *plan, size_t plan_len, drumbook_drum *drums, size_t drums_len,
+                               uint32_t drum)
+{
+    if (has("null") && (plan == NULL || drums == NULL))
+        return broken;
+    drumbook_reading answer = true_open(plan, cut("open-plan", plan_len), drums, cut("open-drums", drums_len), drum);
+    if (has("open-slot") && answer.number == DRUMBOOK_DONE)
+        drums[drum].slots[DRUMBOOK_DRUM_SLOTS - 1] = 1;
+    return answer;
+}
+
+drumbook_reading drumbook_event(const uint8_t *plan, size_t plan_len, drumbook_drum *drums, size_t drums_len,
+                                uint32_t drum, uint8_t kind)
+{
+    if (has("null") && (plan == NULL || drums == NULL))
+        return broken;
+    drumbook_reading answer = true_event(plan, cut("event-plan", plan_len), drums, cut("event-drums", drums_len),
+                                         drum, kind);
+    if (has("label"))
+        answer.label = 0;
+    if (has("neighbour") && answer.number == DRUMBOOK_DONE && drum + 1 < drums_len)
+        drums[drum + 1].events++;
+    if (has("due-cut") && answer.number == DRUMBOOK_DONE && drums[drum].due == 65535)
+        drums[drum].due = 65534;
+    if (has("long-kept") && answer.number == DRUMBOOK_LONG)
+        drums[drum].events = 65535;
+    if (has("drum-31") && drum == DRUMBOOK_DRUMS - 1)
+        answer.records ^= 1;
+    return answer;
+}
+
+drumbook_reading drumbook_close(const uint8_t *plan, size_t plan_len, drumbook_drum *drums, size_t drums_len,
+                                uint32_t drum)
+{
+    if (has("null") && (plan == NULL || drums == NULL))
+        return broken;
+    drumbook_reading answer = true_close(plan, cut("close-plan", plan_len), drums, cut("close-drums", drums_len),
+                                         drum);
+    if (has("close-due") && answer.number == DRUMBOOK_END)
+        drums[drum].due = 1;
     return answer;
 }
 

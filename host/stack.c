@@ -38,6 +38,7 @@ static uint8_t house[DRUMBOOK_HOUSE_NAMES * 3], named[DRUMBOOK_LARGEST_BOOK], mo
 static uint32_t held[SLOTS];
 static uint16_t tree[ROOM], records[ROOM];
 static size_t record_count;
+static drumbook_drum drum, opened;
 
 static ucontext_t here, there;
 static const row *current;
@@ -60,6 +61,25 @@ static drumbook_written (*volatile unread_call)(const uint8_t *, size_t, const u
 
 static drumbook_depth (*volatile greatest_call)(const uint8_t *, size_t);
 static drumbook_depth (*volatile profile_call)(const uint8_t *, size_t, uint32_t);
+
+typedef drumbook_reading turn(const uint8_t *, size_t, drumbook_drum *, size_t, uint32_t);
+static turn *volatile open_call, *volatile close_call;
+static drumbook_reading (*volatile event_call)(const uint8_t *, size_t, drumbook_drum *, size_t, uint32_t, uint8_t);
+
+/* Opens and closes nothing, and takes no event. */
+static drumbook_reading no_turn(const uint8_t *from, size_t from_len, drumbook_drum *drums, size_t drums_len,
+                                uint32_t number)
+{
+    (void)from, (void)from_len, (void)drums, (void)drums_len, (void)number;
+    return (drumbook_reading){0, 0, 0, 0, 0};
+}
+
+static drumbook_reading no_event(const uint8_t *from, size_t from_len, drumbook_drum *drums, size_t drums_len,
+                                 uint32_t number, uint8_t kind)
+{
+    (void)from, (void)from_len, (void)drums, (void)drums_len, (void)number, (void)kind;
+    return (drumbook_reading){0, 0, 0, 0, 0};
+}
 
 /* Measures nothing, and takes no book. */
 static drumbook_depth no_greatest(const uint8_t *book, size_t book_len)
@@ -152,6 +172,24 @@ static uint32_t reads(const input *given)
     return read_call(given->bytes, given->length, given->run, given->events, held, SLOTS, tree, ROOM).number;
 }
 
+/* Opens a drum; gives one that was opened a run's first event, and closes one. */
+static uint32_t opens(const input *given)
+{
+    return open_call(given->bytes, given->length, &drum, 1, 0).number;
+}
+
+static uint32_t events(const input *given)
+{
+    drum = opened;
+    return event_call(given->bytes, given->length, &drum, 1, 0, given->run[0]).number;
+}
+
+static uint32_t closes(const input *given)
+{
+    drum = opened;
+    return close_call(given->bytes, given->length, &drum, 1, 0).number;
+}
+
 /* Makes a move forward, and a move back. */
 static uint32_t forwards(const input *given)
 {
@@ -239,12 +277,14 @@ static size_t taken(void)
     forward_call = drumbook_forward, back_call = drumbook_back, name_call = drumbook_name;
     sheet_call = drumbook_sheet, place_call = drumbook_sheet_place, unread_call = drumbook_unread;
     greatest_call = drumbook_greatest, profile_call = drumbook_profile, sample_call = drumbook_sample;
+    open_call = drumbook_open, event_call = drumbook_event, close_call = drumbook_close;
     make();
     size_t all = most_written();
     form_call = no_form, compile_call = no_compile, read_call = no_read;
     forward_call = no_move, back_call = no_move, name_call = no_name;
     sheet_call = no_sheet, place_call = no_place, unread_call = no_unread;
     greatest_call = no_greatest, profile_call = no_profile, sample_call = no_sheet;
+    open_call = no_turn, event_call = no_event, close_call = no_turn;
     uint32_t number = answered;
     size_t way = most_written();
     answered = number;
@@ -312,6 +352,7 @@ int main(void)
     size_t rinse_size = drumbook_compile(rinse, sizeof rinse, rinse_plan, sizeof rinse_plan).size;
     size_t size = drumbook_compile(large, sizeof large, plan, sizeof plan).size;
     record_count = drumbook_read(plan, size, zero, sizeof zero, held, SLOTS, records, ROOM).records;
+    drumbook_open(rinse_plan, rinse_size, &opened, 1, 0);
     const row rows[] = {
         {"form, no bytes", forms, {NULL, 0, NULL, 0}, DRUMBOOK_LENGTH, 300},
         {"form, the largest book", forms, {large, sizeof large, NULL, 0}, DRUMBOOK_DONE, 300},
@@ -325,6 +366,13 @@ int main(void)
         {"read, refused: PLAN FORM", reads, {NULL, 0, NULL, 0}, DRUMBOOK_PLAN_FORM, 400},
         {"read, the rinse plan", reads, {rinse_plan, rinse_size, run, sizeof run}, DRUMBOOK_DONE, 400},
         {"read, the largest plan", reads, {plan, size, zero, sizeof zero}, DRUMBOOK_DONE, 400},
+        {"open, refused: PLAN FORM", opens, {NULL, 0, NULL, 0}, DRUMBOOK_PLAN_FORM, 600},
+        {"open, the rinse plan", opens, {rinse_plan, rinse_size, NULL, 0}, DRUMBOOK_DONE, 600},
+        {"event, refused: PLAN FORM", events, {NULL, 0, run, 1}, DRUMBOOK_PLAN_FORM, 1000},
+        {"event, refused: UNEXPECTED", events, {rinse_plan, rinse_size, run + 1, 1}, DRUMBOOK_UNEXPECTED, 1000},
+        {"event, the rinse plan", events, {rinse_plan, rinse_size, run, 1}, DRUMBOOK_DONE, 1000},
+        {"event, the largest plan", events, {plan, size, run, 1}, DRUMBOOK_DONE, 1000},
+        {"close, the rinse plan", closes, {rinse_plan, rinse_size, NULL, 0}, DRUMBOOK_END, 1000},
         {"forward, the largest book", forwards, {large, sizeof large, NULL, 0}, DRUMBOOK_DONE, 600},
         {"back, the largest book", backs, {named, named_size, NULL, 0}, DRUMBOOK_DONE, 600},
         {"name, in the house list", names, {large, sizeof large, NULL, 0}, 2, 400},

@@ -26,6 +26,8 @@ static inline const char *words(uint32_t number)
         "END: the run ends too early",
         "RUNAWAY: the plan walks in a circle",
         "NO ROOM: the tree buffer is shorter than the tree",
+        [17] = "NO DRUM: no such drum on the list",
+        [18] = "IDLE: the drum is not open",
         [19] = "NAMES: a bad name",
         [20] = "KEPT: names would be lost",
         [21] = "OUT ROOM: the buffer is shorter than what is to be written",
@@ -40,6 +42,7 @@ static inline const char *words(uint32_t number)
         [30] = "UNBOUNDED: no number of slots is enough",
         [31] = "DEEPER: the controller has too few slots",
         [32] = "SLOTS: the slot count is not 1 to 64",
+        [33] = "STALE: the drum claims what no drum has",
     };
     return number < sizeof said / sizeof *said && said[number] ? said[number] : "no such answer";
 }

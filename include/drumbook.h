@@ -59,6 +59,8 @@ enum {
     DRUMBOOK_END = 14,        /* the run ends where more was due; place: its length */
     DRUMBOOK_RUNAWAY = 15,    /* N nodes visited at one event and another due, by forged plans only; place: the event */
     DRUMBOOK_NO_ROOM = 16,    /* accepted, but more records than the tree buffer holds; see records */
+    DRUMBOOK_NO_DRUM = 17,    /* the drum's number is not below 32, or not on the list */
+    DRUMBOOK_IDLE = 18,       /* an event or a closing for a drum that is not open */
     DRUMBOOK_NAMES = 19,      /* a bad name in the book, then in the house list; place: the first bad name, of a pair
                                  the later, or how many names there are where bytes are left over */
     DRUMBOOK_KEPT = 20,       /* moving back would lose names: they are not the first of the house list */
@@ -75,13 +77,17 @@ enum {
     DRUMBOOK_KINDLESS = 29,   /* the sheet has no event kind at all */
     DRUMBOOK_UNBOUNDED = 30,  /* no number of slots is enough for all lawful runs of the book */
     DRUMBOOK_DEEPER = 31,     /* the book needs more slots than the controller has; place: how many it needs */
-    DRUMBOOK_SLOTS = 32       /* the controller's slot count is not 1 to 64 */
+    DRUMBOOK_SLOTS = 32,      /* the controller's slot count is not 1 to 64 */
+    DRUMBOOK_STALE = 33       /* an event or a closing for a drum that claims over 64 held parts, a held node not below
+                                 N, over 65,535 events or over 67,042,305 records */
 };
 
 enum {
     DRUMBOOK_LARGEST_BOOK = 4184,   /* bytes of the longest book, with 512 nodes and 64 names of 16 bytes */
     DRUMBOOK_HOUSE_NAMES = 64,      /* names of a house list */
     DRUMBOOK_LARGEST_PLAN = 37406,  /* bytes of the longest plan: a buffer that always suffices */
+    DRUMBOOK_DRUMS = 32,            /* drums of a board that can be used; a list may be longer */
+    DRUMBOOK_DRUM_SLOTS = 64,       /* holding slots of a drum */
     DRUMBOOK_EMPTY_RECORD = 32768   /* added to the node number in the record of a part that takes no event */
 };
 
@@ -134,6 +140,47 @@ typedef struct {
  */
 drumbook_reading drumbook_read(const uint8_t *plan, size_t plan_len, const uint8_t *run, size_t run_len,
                                uint32_t *held, size_t held_len, uint16_t *tree, size_t tree_len);
+
+/*
+ * A drum: a run under way, of which no tree is kept. All zeros is an idle drum, anything else an open one; a board is a
+ * list of drums that begins as zeros and is lent to every call. From then on, with one plan throughout, what a drum
+ * answers depends on its own calls only, and the fields are as said here. A host need not look into them, but due is
+ * for its screen. Forged drums do no harm: every call answers, and writes nothing but the drum that it names. Each call
+ * takes under 1,000 bytes of stack.
+ */
+typedef struct {
+    uint32_t slots[DRUMBOOK_DRUM_SLOTS]; /* the held parts, the one held last at the end: the node in the low half, in
+                                            the high half the label of the stage it was held in; zeros after them */
+    uint32_t held;                       /* how many parts are held */
+    uint32_t events;                     /* how many events were taken */
+    uint32_t records;                    /* how many records their tree has so far */
+    uint32_t due;                        /* the least number of events that would make the run lawful, held at 65,535
+                                            where it is that or more: the sum over the held parts by the plan */
+} drumbook_drum;
+
+/*
+ * Opens a drum of the list; one that is open, or stale, starts afresh. Answers the first of 8, 9 and 17 that holds, and
+ * then the list is as it was; or DRUMBOOK_DONE with place and records 0.
+ */
+drumbook_reading drumbook_open(const uint8_t *plan, size_t plan_len, drumbook_drum *drums, size_t drums_len,
+                               uint32_t drum);
+
+/*
+ * Gives a drum an event of a kind. Answers the first of 8, 9, 17, 18 and 33 that holds, place 0 but for 9, and then the
+ * list is as it was. Otherwise an event that is taken answers DRUMBOOK_DONE, with the events so far as place and the
+ * records so far; one that is refused answers 10, place 0, or as reading does 11, 12, 13 or 15, and makes the drum
+ * idle. The 65,536th event is 10, whatever its kind.
+ */
+drumbook_reading drumbook_event(const uint8_t *plan, size_t plan_len, drumbook_drum *drums, size_t drums_len,
+                                uint32_t drum, uint8_t kind);
+
+/*
+ * Closes a drum. Answers the first of 8, 9, 17, 18 and 33 that holds, and then the list is as it was; otherwise as a
+ * reading of the drum's events does, with 64 slots and room enough: DRUMBOOK_DONE with all records, or 14. The drum is
+ * then idle.
+ */
+drumbook_reading drumbook_close(const uint8_t *plan, size_t plan_len, drumbook_drum *drums, size_t drums_len,
+                                uint32_t drum);
 
 /* What a call that writes bytes answers. */
 typedef struct {

@@ -17,6 +17,8 @@ pub const UNEXPECTED: u32 = 13;
 pub const END: u32 = 14;
 pub const RUNAWAY: u32 = 15;
 pub const NO_ROOM: u32 = 16;
+pub const NO_DRUM: u32 = 17;
+pub const IDLE: u32 = 18;
 pub const NAMES: u32 = 19;
 pub const KEPT: u32 = 20;
 pub const OUT_ROOM: u32 = 21;
@@ -31,6 +33,7 @@ pub const KINDLESS: u32 = 29;
 pub const UNBOUNDED: u32 = 30;
 pub const DEEPER: u32 = 31;
 pub const SLOTS: u32 = 32;
+pub const STALE: u32 = 33;
 
 /// Stands beside the answer numbers for the listing program's message that its input is too long.
 pub const INPUT_TOO_LONG: u32 = 62;

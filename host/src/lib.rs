@@ -1,11 +1,13 @@
 //! Independent implementations of document 01, and what the tests of the proved library share.
 
 pub mod answers;
+pub mod board;
 pub mod book;
 pub mod books;
 pub mod calls;
 pub mod compile;
 pub mod depth;
+pub mod due;
 pub mod ffi;
 pub mod form;
 pub mod fuzz;
@@ -14,6 +16,7 @@ pub mod meaning;
 pub mod moves;
 pub mod names;
 pub mod pair;
+pub mod pending;
 pub mod program;
 pub mod read;
 pub mod recognise;
@@ -23,6 +26,7 @@ pub mod shown;
 pub mod smaller;
 pub mod unread;
 pub mod worked;
+pub mod worked_board;
 
 #[cfg(test)]
 mod tests {
@@ -53,6 +57,9 @@ mod tests {
             assert_eq!(named(name), number as u32, "{name}");
         }
         let later = [
+            ("NO_DRUM", NO_DRUM),
+            ("IDLE", IDLE),
+            ("STALE", STALE),
             ("NAMES", NAMES),
             ("KEPT", KEPT),
             ("OUT_ROOM", OUT_ROOM),
@@ -72,6 +79,8 @@ mod tests {
             assert_eq!(named(name), number, "{name}");
         }
         assert_eq!(named("HOUSE_NAMES"), names::HOUSE_NAMES as u32);
+        assert_eq!(named("DRUMS"), board::MOST_DRUMS);
+        assert_eq!(named("DRUM_SLOTS"), board::DRUM_SLOTS as u32);
         assert_eq!(named("EMPTY_RECORD"), u32::from(EMPTY_RECORD));
         assert_eq!(named("LARGEST_BOOK"), book::LONGEST_BOOK as u32);
         assert_eq!(named("LARGEST_PLAN"), book::LONGEST_PLAN as u32);

@@ -1,6 +1,7 @@
 //! What is smaller than a thing: bytes given as a book or a plan, other bytes, inputs, numbers.
 
 use crate::answers::{CONTENTS, LENGTH};
+use crate::board::Drum;
 use crate::book::*;
 use crate::form::form;
 use crate::listing::{self, input};
@@ -138,5 +139,33 @@ pub fn smaller_numbers(number: usize) -> Smaller<usize> {
     let mut smaller = vec![0, number / 2, number.saturating_sub(1)];
     smaller.dedup();
     smaller.retain(|&other| other < number);
+    Box::new(smaller.into_iter())
+}
+
+/// Drums smaller than these: fewer, one of them idle, or one of them with a smaller number in it.
+pub fn smaller_drums(drums: &[Drum]) -> Smaller<Vec<Drum>> {
+    let mut smaller = Vec::new();
+    for gone in 0..drums.len() {
+        smaller.push([&drums[..gone], &drums[gone + 1..]].concat());
+    }
+    for (at, drum) in drums
+        .iter()
+        .enumerate()
+        .filter(|drum| *drum.1 != Drum::IDLE)
+    {
+        let mut with = |other: Drum| {
+            let mut drums = drums.to_vec();
+            drums[at] = other;
+            smaller.push(drums);
+        };
+        with(Drum::IDLE);
+        for field in 0..drum.words().len() {
+            for less in smaller_numbers(drum.words()[field] as usize) {
+                let mut words = drum.words();
+                words[field] = less as u32;
+                with(Drum::of_words(&words));
+            }
+        }
+    }
     Box::new(smaller.into_iter())
 }

@@ -2,6 +2,7 @@
 //! width.
 
 use host::answers::Tally;
+use host::board::Drum;
 use host::book::bytes_of;
 use host::calls::lender::{Lender, Lending, Part, Raw};
 use host::calls::{Answer, Argument, Call, Left, Made, CALLS};
@@ -14,6 +15,9 @@ const SMALL: usize = 1_500;
 
 /// Lengths of up to this many bits are lent as they are; wider ones are more than memory allows.
 const PLAIN_BITS: u32 = 23;
+
+/// Lists of drums of up to this many bits are lent as they are.
+const DRUM_BITS: u32 = 12;
 
 /// The widest length of a buffer, in bits: elements of 2 bytes that fill 8 GB.
 const BUFFER_BITS: u32 = 32;
@@ -44,6 +48,11 @@ fn resized(argument: &Argument, length: usize) -> Argument {
         }
         Argument::Room(_) => Argument::Room(length),
         Argument::Number(_) => Argument::Number(length as u32),
+        Argument::Drums(drums) => {
+            let mut drums = drums.clone();
+            drums.resize(length, Drum::IDLE);
+            Argument::Drums(drums)
+        }
     }
 }
 
@@ -82,7 +91,11 @@ fn lengths_of_few_bits() {
         let mut pair = Pair::of(call);
         let example = (call.example)();
         for (place, argument) in example.iter().enumerate() {
-            let powers = (0..PLAIN_BITS).map(|bits| argument.size() + (1 << bits));
+            let widest = match argument {
+                Argument::Drums(_) => DRUM_BITS,
+                _ => PLAIN_BITS,
+            };
+            let powers = (0..widest).map(|bits| argument.size() + (1 << bits));
             for length in (0..SMALL).chain(powers) {
                 let mut arguments = example.clone();
                 arguments[place] = resized(argument, length);
@@ -140,6 +153,7 @@ fn buffers_longer_than_memory() {
         let buffers = (0..example.len()).filter(|&at| matches!(example[at], Argument::Room(_)));
         for (number, place) in buffers.enumerate() {
             let (bytes, width) = match &wanted.left[number] {
+                Left::Drums(_) => unreachable!("a list of drums is no room"),
                 Left::Bytes(bytes) => (bytes.clone(), 1),
                 Left::Words(words) => (words.iter().flat_map(|w| w.to_le_bytes()).collect(), 2),
                 Left::Slots(slots) => (slots.iter().flat_map(|s| s.to_le_bytes()).collect(), 4),

@@ -11,8 +11,11 @@ ghost use Rattle.making.specs.Makes.{Makes, Places};
 ghost use Rattle.unread.specs.Unreads.{Unreads};
 ghost use Rattle.profile.specs.Profiles.{Measures, Profiles};
 ghost use Rattle.sample.specs.Samples.{Samples};
+ghost use Rattle.drums.specs.Drums.{openOf, eventOf, closeOf};
+ghost use Rattle.board.specs.Board.{calls, called};
 use book::Judged;
 use compiler::Compiled;
+use drums::Drum;
 use moves::Part;
 use profile::Depth;
 use reader::Reading;
@@ -115,6 +118,54 @@ pub extern "C" fn drumbook_profile(book: &[u8], slots: u32) -> Depth
     ensures { λ r. ⌜ Profiles (now (book .entry)) slots r ⌝ }
 {
     profile::profile(book, slots)
+}
+
+// Opens a drum, for any bytes, drums and number: done or 8, 9 and 17.
+#[no_mangle]
+pub extern "C" fn drumbook_open(plan: &[u8], drums: &mut [Drum], number: u32) -> Reading
+    ensures { λ r. ⌜ calls r (now (drums .exit)) ≡ called openOf (now (plan .entry)) (now (drums .entry)) number 0 ⌝ }
+{
+    let kind: u8 = 0;
+    let at = number as usize;
+    if at < drums.len() {
+        let opened = drums::open(plan, drums[at], number, kind);
+        drums[at] = opened.drum;
+        return opened.reading;
+    } else {
+        return drums::absent(plan);
+    }
+}
+
+// Gives a drum an event, for any bytes, drums, number and kind: done or 8 to 13, 15, 17, 18 and 33.
+#[no_mangle]
+pub extern "C" fn drumbook_event(plan: &[u8], drums: &mut [Drum], number: u32, kind: u8) -> Reading
+    ensures { λ r. ⌜ calls r (now (drums .exit))
+        ≡ called eventOf (now (plan .entry)) (now (drums .entry)) number kind ⌝ }
+{
+    let at = number as usize;
+    if at < drums.len() {
+        let taken = drums::event(plan, drums[at], number, kind);
+        drums[at] = taken.drum;
+        return taken.reading;
+    } else {
+        return drums::absent(plan);
+    }
+}
+
+// Closes a drum, for any bytes, drums and number: done or 8, 9, 14, 17, 18 and 33.
+#[no_mangle]
+pub extern "C" fn drumbook_close(plan: &[u8], drums: &mut [Drum], number: u32) -> Reading
+    ensures { λ r. ⌜ calls r (now (drums .exit)) ≡ called closeOf (now (plan .entry)) (now (drums .entry)) number 0 ⌝ }
+{
+    let kind: u8 = 0;
+    let at = number as usize;
+    if at < drums.len() {
+        let closed = drums::close(plan, drums[at], number, kind);
+        drums[at] = closed.drum;
+        return closed.reading;
+    } else {
+        return drums::absent(plan);
+    }
 }
 
 // A sample run of a book, for any bytes and any room: done, the book's own refusal, 24 or 25; the shortest lawful run,

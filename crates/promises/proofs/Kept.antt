@@ -1,7 +1,7 @@
 -- The promises are kept: each statement of specs/Promises.antt, for all bytes.
 use Prim.Native.Nat.{ℕ, _-_, _≤_, _<_, _^_}
 use native.Mathlib.Nat.{le-trans}
-use mathlib.Core.Path.{_≡_, sym, _∙_}
+use mathlib.Core.Path.{_≡_, refl, sym, _∙_}
 use mathlib.Core.Bool.{Bool, true, false}
 use mathlib.Core.Logic.{_↔_, _≢_, _⊎_, Iff·trans}
 use mathlib.Core.List.{List, [], _∷_, _++_}
@@ -72,6 +72,22 @@ use Rattle.profile.specs.declared.Depth.{Depth}
 use Rattle.profile.specs.Profiles.{Measures, Profiles}
 use Rattle.profile.proofs.Unique.{measures-unique, profiles-unique}
 use Rattle.profile.proofs.Some.{measures-some, profiles-some}
+use Rattle.drums.specs.declared.Drum.{Drum}
+use Rattle.drums.specs.Drums.{STALE, boardDrums, drumSlots, openOf, eventOf, closeOf}
+use Rattle.drumming.specs.Drumming.{Usable, Stands}
+use Rattle.drumming.specs.Alike.{DrumsAlike, CallsAlike}
+use Rattle.drumming.proofs.Alike.{calls-alike, stands-alike}
+use Rattle.board.specs.Board.{called}
+use Rattle.board.specs.Sequences.{opening, event as event-asked, close, askedOf, Call, callOn, drumsAfter, Isolated}
+use Rattle.board.proofs.Isolation.{isolated}
+use Rattle.calling.specs.Calling.{zeroBoard, ask, Unasked, Leaves, Plays, PlaysAsRead}
+use Rattle.calling.proofs.Board.{leaves, unused-answers}
+use Rattle.calling.proofs.Runs.{plays-as-read}
+use Rattle.calling.proofs.Fresh.{never-comes}
+use Rattle.finishing.specs.Finishing.{StillDue}
+use Rattle.finishing.specs.Boards.{BoardsAlike, SequencesAlike}
+use Rattle.finishing.proofs.Boards.{sequences-alike}
+use Rattle.finishing.proofs.Finishing.{due-once}
 use Rattle.worked.specs.Worked.{Each, Holds, table}
 use Rattle.worked.proofs.Checked.{worked}
 use Rattle.promises.specs.Promises.{CompileAnswers, ReadAnswers, PassesExactly, ClashesTold, PlanByRules, DueTold, Enough, ReadsAsMeant, FewRecords, OnBiggerBoards}
@@ -81,6 +97,7 @@ use Rattle.promises.proofs.More.{by-call, bigger-boards}
 use Rattle.promises.proofs.Meant.{passed-reads, passed-reads-any, passed-records, passed-no-room}
 use Rattle.promises.proofs.RoundTrips.{done-short, done-not-deep, done-not-full, tree-back, tree-read}
 use Rattle.promises.proofs.Profiled.{parts-measured, profile-says, measured-event, measured-event-shallow, measured-shallow, taken-measured}
+use Rattle.promises.proofs.Boards.{drum-due, drum-shallow}
 use Rattle.promises.proofs.Readers.{not-constant, not-nodding, not-nodding-trees}
 
 -- Demand 1: the number of a form test is one of 0 to 4 and 19
@@ -541,3 +558,73 @@ module _ (answers : (plan run held tree : List ℕ) → Reading) (slots trees : 
 -- the worked table
 pub worked-table : Each Holds table
 worked-table = worked
+
+-- The board: what its calls promise, of every plan and every list of drums, forged ones too. Each call is a function (`called`, the contract
+-- of the exports), so it has one answer
+pub board-calls : (plan : List ℕ) (drums : List Drum) (number k : ℕ)
+    → (callOn plan drums (ask opening number k) ≡ called openOf plan drums number k)
+    × (callOn plan drums (ask event-asked number k) ≡ called eventOf plan drums number k)
+    × (callOn plan drums (ask close number k) ≡ called closeOf plan drums number k)
+unfolding askedOf
+board-calls plan drums number k = (refl, refl, refl)
+
+-- a call changes at most the drum named, and nothing where it judges nothing; how it answers and leaves that drum
+pub board-leaves : (plan : List ℕ) (drums : List Drum) (c : Call) → Leaves drums c (callOn plan drums c)
+board-leaves plan drums c = leaves plan drums c
+
+-- without a good plan, a number below 32 and a list so long every call is 8, 9 or 17
+pub board-unused : (plan : List ℕ) (drums : List Drum) (c : Call) → (Usable plan (c .number) → c .number < length drums → ⊥)
+    → Unasked (callOn plan drums c .reading .number)
+board-unused plan drums c bad = unused-answers plan drums c bad
+
+-- how a drum stands and what it answers depends on its own calls only, from any board, and so from a zero one
+pub board-isolates : (plan : List ℕ) (drums : List Drum) (cs : List Call) (d : ℕ) → Isolated plan drums cs d
+board-isolates plan drums cs d = isolated plan drums cs d
+
+-- with a good plan and a number below 32 on the list: as a reading of the drum's events
+pub board-reads : {plan : List ℕ} {number : ℕ} {run : List ℕ} {drums : List Drum} → Usable plan number → Plays plan number run drums
+    → PlaysAsRead plan number run drums
+board-reads usable plays = plays-as-read usable plays
+
+-- from a zero board with one plan, whatever plan and calls, STALE never comes
+pub board-never-stale : (plan : List ℕ) (drums : ℕ) (cs : List Call) (c : Call)
+    → callOn plan (drumsAfter plan (zeroBoard drums) cs) c .reading .number ≢ STALE
+board-never-stale plan drums cs c = never-comes plan drums cs c
+
+-- The board's due events, plans alike, profiles
+-- plans alike but for what is due, on drums alike but for it: every call answers the same and leaves drums alike but for it, forged ones too
+pub board-calls-alike : {plan other : List ℕ} → AlikeButDue plan other → {d e : Drum} → DrumsAlike d e → (number : ℕ)
+    → CallsAlike plan other d e number
+board-calls-alike alike same number = calls-alike alike same number
+
+-- so a drum that stands after events by one of the plans stands after them by the other, alike but for what is due
+pub board-stands-alike : {plan other : List ℕ} → AlikeButDue plan other → {number : ℕ} {run : List ℕ} {d : Drum} → Stands plan number run d
+    → (e : Drum) × Stands other number run e × DrumsAlike d e
+board-stands-alike alike stands = stands-alike alike stands
+
+-- and calls one after another on boards alike but for what is due: every drum answers the same, and the boards stay alike but for it
+pub board-sequences-alike : {plan other : List ℕ} → AlikeButDue plan other → {drums others : List Drum} → BoardsAlike drums others
+    → (cs : List Call) → SequencesAlike plan other drums others cs
+board-sequences-alike alike same cs = sequences-alike alike same cs
+
+-- so many events are still due after a run, and no other number
+pub due-told-once : {b : Book} {run : List ℕ} {m n : ℕ} → StillDue b run m → StillDue b run n → m ≡ n
+due-told-once one other = due-once one other
+
+-- a drum that stands after events by a compiled plan
+module _ {bytes : List ℕ} {room : ℕ} {a : Compiled} {plan : List ℕ} (compiled : Compiles bytes room a plan) (is : a .number ≡ DONE)
+    {number : ℕ} (low : number < boardDrums) {run : List ℕ} {d : Drum} (stands : Stands (take (a .size) plan) number run d) where
+  -- it has as due the least number of events that makes its run lawful, 65,535 where that is as much or more
+  pub board-still-due : StillDue (bookOf bytes) run (d .due)
+  board-still-due = drum-due compiled is low stands
+
+  -- if at most 64 parts are ever held, no event is DEEP
+  pub board-never-deep : {depth : Depth} → Measures bytes depth → depth .number ≡ DONE → depth .held ≤ drumSlots → (k : ℕ)
+      → eventOf (take (a .size) plan) d number k .reading .number ≢ DEEP
+  board-never-deep measures done enough k = drum-shallow compiled is low stands measures done enough k
+
+  -- under a profile of at most 64 slots that takes the book
+  pub board-profile-never-deep : {slots : ℕ} {depth : Depth} → Profiles bytes slots depth → depth .number ≡ DONE → slots ≤ drumSlots
+      → (k : ℕ) → eventOf (take (a .size) plan) d number k .reading .number ≢ DEEP
+  board-profile-never-deep profiles done few k =
+      let (measures, most) = taken-measured profiles done in board-never-deep measures done (le-trans most few) k

@@ -8,3 +8,4 @@ mod Outcomes
 mod Readers
 mod RoundTrips
 pub mod Profiled
+mod Boards

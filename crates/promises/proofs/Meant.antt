@@ -80,14 +80,14 @@ tells-agree {b} {run} agree (carried-stopped below) (tells-next {i = i} {held} n
     tells-next {i = i} {held = held} (rw (expected-agrees agree below) at next)
 
 module _ {bytes : List ℕ} {room : ℕ} {a : Compiled} {plan : List ℕ} (compiled : Compiles bytes room a plan) (is : a .number ≡ DONE) where
-  known : Passed bytes room plan
+  pub known : Passed bytes room plan
   known = passed compiled is
 
   book-formed : WellFormed (bookOf bytes)
   book-formed = passed-passes compiled is .well-formed
 
   -- the bytes that the reader is given
-  given-plan : take (a .size) plan ≡ planBytes (bookOf bytes) (known .marks)
+  pub given-plan : take (a .size) plan ≡ planBytes (bookOf bytes) (known .marks)
   given-plan =
       (λ i. take (passed-size compiled is i) (known .plan-is i))
       ∙ take-at (planBytes (bookOf bytes) (known .marks)) _ _ (size-is (bookOf bytes) (known .marks))
@@ -191,10 +191,18 @@ module _ {bytes : List ℕ} {room : ℕ} {a : Compiled} {plan : List ℕ} (compi
       lawful (means-end m) is = let never : _≡_ {A = ℕ} 0 1 = cc in absurd (omega arith)
 
 -- what a run means is never DEEP
+refused-shallow : {b : Book} {run : List ℕ} {number place : ℕ} {held : List ℕ} → Means b run (stopped number place held) → number ≢ DEEP
+refused-shallow {b} {run} {number} {place} (means-refused r number-is) = by-kind (ltb (getD run place 0) (b .kinds)) number-is
+  where
+    by-kind : (t : Bool) → number ≡ cond t UNEXPECTED UNKNOWN → number ≢ DEEP
+    by-kind true is e = omega (arith, is, e)
+    by-kind false is e = omega (arith, is, e)
+refused-shallow (means-end m) = λ e. omega (arith, e)
+
 means-shallow : {b : Book} {run : List ℕ} (p : Plan) (size room : ℕ) (answer : AnswerOf Part) → Means b run (bareAnswer answer)
     → outcomeOf p size room answer .reading .number ≢ DEEP
 unfolding outcomeOf acceptedOf bareAnswer
-means-shallow p size room (accepted records) m = by-room (leb (length records) room)
+means-shallow p size room (accepted records) means = by-room (leb (length records) room)
   where
     by-room : (t : Bool)
         → cond t (outcome (answered DONE size (length records) 0) (records ++ zeros (room - length records)))
@@ -202,13 +210,7 @@ means-shallow p size room (accepted records) m = by-room (leb (length records) r
         ≢ DEEP
     by-room true e = omega (arith, e)
     by-room false e = omega (arith, e)
-means-shallow {b} {run} p size room (stopped number place held) (means-refused r number-is) =
-    by-kind (ltb (getD run place 0) (b .kinds)) number-is
-  where
-    by-kind : (t : Bool) → number ≡ cond t UNEXPECTED UNKNOWN → number ≢ DEEP
-    by-kind true is e = omega (arith, is, e)
-    by-kind false is e = omega (arith, is, e)
-means-shallow p size room (stopped number place held) (means-end m) = λ e. omega (arith, e)
+means-shallow p size room (stopped number place held) means = refused-shallow means
 
 -- slots as many as the greatest number of parts ever held are enough for every run
 module _ {bytes : List ℕ} {room : ℕ} {a : Compiled} {plan : List ℕ} (compiled : Compiles bytes room a plan) (is : a .number ≡ DONE)
@@ -221,14 +223,14 @@ module _ {bytes : List ℕ} {room : ℕ} {a : Compiled} {plan : List ℕ} (compi
         | yes short ↦
             let facts = passed compiled is in
             let passes = passed-passes compiled is in
-            let written = planOf (planBytes (bookOf bytes) (facts .marks)) in
-            let told : bareAnswer (stagedReading written (withSlots slots) run) ≡ reading (planFor (bookOf bytes) (facts .marks)) unlimited run =
-            reading-bare written (withSlots slots) run
+            let plan-by = planOf (planBytes (bookOf bytes) (facts .marks)) in
+            let bare-answer =
+            reading-bare plan-by (withSlots slots) run
             ∙ plan-reads (bookOf bytes) (facts .marks) (book-formed compiled is) (withSlots slots) run
             ∙ reading-enough passes (facts .marks) (facts .marked) greatest enough run in
             rw (reads-run compiled is run slots tree-room short some)
-            (means-shallow {b = bookOf bytes} {run = run} written (length run) tree-room (stagedReading written (withSlots slots) run)
-            (rw told (reading-means passes (facts .marks) (facts .marked) run)))
+            (means-shallow {b = bookOf bytes} {run = run} plan-by (length run) tree-room (stagedReading plan-by (withSlots slots) run)
+            (rw bare-answer (reading-means passes (facts .marks) (facts .marked) run)))
         | no long ↦ λ e. omega (arith, e, ap (λ (o : Outcome). o .reading .number) (too-long (omega arith)))
       ]
     where

@@ -1,6 +1,7 @@
 //! Books, damaged bytes, runs and forged plans to test with.
 
 pub mod damaged;
+pub mod drums;
 pub mod examples;
 pub mod forged;
 pub mod inputs;

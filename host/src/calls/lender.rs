@@ -2,6 +2,7 @@
 
 use super::sorts::{Sort, Way};
 use super::{Answer, Argument, Left};
+use crate::board::Drum;
 use crate::book::bytes_of;
 use crate::ffi::lent::{Edge, Lent, Sealed};
 use crate::program::Delivery;
@@ -44,6 +45,7 @@ pub type Raw = unsafe fn(&[Part]) -> Vec<u64>;
 /// The memory of one sort.
 enum Region {
     Sealed(Sealed),
+    Drums(Lent<Drum>),
     Bytes(Lent<u8>),
     Words(Lent<u16>),
     Slots(Lent<u32>),
@@ -78,10 +80,10 @@ impl Lender {
         let fields = unsafe { raw(&parts) };
         let mut answer = Answer::new(fields, Vec::new());
         for (sort, argument) in takes.iter().zip(arguments) {
-            if let Argument::Room(room) = argument {
+            if let Argument::Room(_) | Argument::Drums(_) = argument {
                 let region = self.region(sort);
-                answer.left.push(region.left(*room, lending.edge));
-                answer.kept &= region.kept_beside(*room, lending);
+                answer.left.push(region.left(argument.size(), lending.edge));
+                answer.kept &= region.kept_beside(argument.size(), lending);
             }
         }
         answer
@@ -107,6 +109,7 @@ impl Lender {
             .or_insert_with(|| match sort.way {
                 Way::Read(_) => Region::Sealed(Sealed::new(sort.most)),
                 Way::ReadWords => Region::Sealed(Sealed::new(2 * sort.most)),
+                Way::Drums => Region::Drums(Lent::new(sort.most)),
                 Way::WriteBytes => Region::Bytes(Lent::new(sort.most)),
                 Way::WriteWords => Region::Words(Lent::new(sort.most)),
                 Way::WriteSlots => Region::Slots(Lent::new(sort.most)),
@@ -125,6 +128,11 @@ impl Region {
             }
             (Region::Sealed(sealed), Argument::Words(words)) => {
                 sealed.put(&bytes_of(words), edge).as_ptr().cast_mut()
+            }
+            (Region::Drums(lent), Argument::Drums(drums)) => {
+                let part = lent.lend(garbage_drum(garbage), drums.len(), edge);
+                part.copy_from_slice(drums);
+                part.as_mut_ptr().cast()
             }
             (Region::Bytes(lent), &Argument::Room(room)) => {
                 lent.lend(garbage, room, edge).as_mut_ptr()
@@ -150,6 +158,7 @@ impl Region {
     fn left(&mut self, room: usize, edge: Edge) -> Left {
         match self {
             Region::Sealed(_) | Region::None => panic!("nothing is left where nothing is written"),
+            Region::Drums(lent) => Left::Drums(lent.part(room, edge).to_vec()),
             Region::Bytes(lent) => Left::Bytes(lent.part(room, edge).to_vec()),
             Region::Words(lent) => Left::Words(lent.part(room, edge).to_vec()),
             Region::Slots(lent) => Left::Slots(lent.part(room, edge).to_vec()),
@@ -161,11 +170,17 @@ impl Region {
         let Lending { edge, garbage, .. } = lending;
         match self {
             Region::Sealed(_) | Region::None => true,
+            Region::Drums(lent) => lent.kept_beside(garbage_drum(garbage), room, edge),
             Region::Bytes(lent) => lent.kept_beside(garbage, room, edge),
             Region::Words(lent) => lent.kept_beside(doubled(garbage), room, edge),
             Region::Slots(lent) => lent.kept_beside(fourfold(garbage), room, edge),
         }
     }
+}
+
+/// A drum of this byte again and again.
+fn garbage_drum(byte: u8) -> Drum {
+    Drum::filled(u32::from_le_bytes([byte; 4]))
 }
 
 /// A word of this byte twice.

@@ -1,6 +1,7 @@
 //! The calls as one table. A row says what a call takes and answers, how it is made, what it must answer, and how the
 //! fuzzer makes cases of it; the lender, the tests, the fuzzer and the shrinker go by the table.
 
+pub mod board;
 pub mod compile;
 pub mod depth;
 pub mod form;
@@ -15,6 +16,7 @@ pub mod sorts;
 pub mod unread;
 
 use crate::answers::{Compiled, Reading};
+use crate::board::Drum;
 use crate::books::random::Random;
 use lender::{Lender, Lending, Raw};
 use sorts::Sort;
@@ -27,10 +29,13 @@ pub type Compile = fn(&[u8], &mut [u8]) -> Compiled;
 pub type Read = fn(&[u8], &[u8], &mut [u32], &mut [u16]) -> Reading;
 
 /// All calls; a call's place here is its number.
-pub static CALLS: [&Call; 13] = [
+pub static CALLS: [&Call; 16] = [
     &form::FORM,
     &compile::COMPILE,
     &read::READ,
+    &board::OPEN,
+    &board::EVENT,
+    &board::CLOSE,
     &moves::FORWARD,
     &moves::BACK,
     &name::NAME,
@@ -93,6 +98,10 @@ impl Call {
         let mut told = fields.join(", ") + "\n";
         for left in &answer.left {
             told += &match left {
+                Left::Drums(drums) => drums
+                    .iter()
+                    .map(|drum| buffer_told(&drum.words()))
+                    .collect(),
                 Left::Bytes(bytes) => buffer_told(bytes),
                 Left::Words(words) => buffer_told(words),
                 Left::Slots(slots) => buffer_told(slots),
@@ -123,6 +132,8 @@ pub enum Argument {
     Room(usize),
     /// A number.
     Number(u32),
+    /// A list of drums, lent as they stand, that it may change.
+    Drums(Vec<Drum>),
 }
 
 impl Argument {
@@ -158,6 +169,14 @@ impl Argument {
         }
     }
 
+    /// The drums that are lent.
+    pub fn drums(&self) -> &[Drum] {
+        match self {
+            Argument::Drums(drums) => drums,
+            _ => panic!("no drums where drums are due"),
+        }
+    }
+
     /// How large it is.
     pub fn size(&self) -> usize {
         match self {
@@ -165,6 +184,7 @@ impl Argument {
             Argument::Words(words) => words.len(),
             Argument::Room(room) => *room,
             Argument::Number(number) => *number as usize,
+            Argument::Drums(drums) => drums.len(),
         }
     }
 }
@@ -172,6 +192,7 @@ impl Argument {
 /// What a buffer holds after a call.
 #[derive(Clone, Debug, PartialEq, Eq)]
 pub enum Left {
+    Drums(Vec<Drum>),
     Bytes(Vec<u8>),
     Words(Vec<u16>),
     Slots(Vec<u32>),

@@ -18,6 +18,8 @@ pub enum Way {
     Read(fn(&[u8]) -> Smaller<Vec<u8>>),
     /// 16-bit numbers to be read.
     ReadWords,
+    /// Drums, lent as they stand, to be read and written.
+    Drums,
     /// Bytes to be written.
     WriteBytes,
     /// 16-bit numbers to be written.
@@ -108,6 +110,20 @@ pub static KIND: Sort = Sort {
     most: 0,
 };
 
+/// A list of drums.
+pub static DRUMS: Sort = Sort {
+    name: "drums",
+    way: Way::Drums,
+    most: 5_000,
+};
+
+/// A drum's number.
+pub static DRUM_NUMBER: Sort = Sort {
+    name: "drum",
+    way: Way::Number,
+    most: 0,
+};
+
 /// The buffer that the plan is written to.
 pub static PLAN_BUFFER: Sort = Sort {
     name: "plan buffer",
@@ -148,6 +164,7 @@ impl Sort {
             (_, Argument::Number(number)) => Box::new(
                 smaller_numbers(*number as usize).map(|less| Argument::Number(less as u32)),
             ),
+            (_, Argument::Drums(drums)) => Box::new(smaller_drums(drums).map(Argument::Drums)),
             (_, Argument::Given(_)) => panic!("bytes where a buffer is due"),
         }
     }

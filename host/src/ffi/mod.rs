@@ -1,5 +1,6 @@
 //! The proved library's calls as C has them, and memory to lend to it.
 
+pub mod board;
 pub mod compile;
 pub mod depth;
 pub mod form;

@@ -51,6 +51,12 @@ impl Display for Case {
                 Argument::Words(words) => write_bytes(f, sort.name, &bytes_of(words))?,
                 Argument::Room(room) => writeln!(f, "  {} of {room}", sort.name)?,
                 Argument::Number(number) => writeln!(f, "  {} {number}", sort.name)?,
+                Argument::Drums(drums) => {
+                    writeln!(f, "  {} of {}", sort.name, drums.len())?;
+                    for drum in drums {
+                        writeln!(f, "    {:x?}", drum.words())?;
+                    }
+                }
             }
         }
         Ok(())

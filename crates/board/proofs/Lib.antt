@@ -1,0 +1,5 @@
+pub mod Calls
+pub mod Isolation
+pub mod Thin
+pub mod Kinded
+pub mod Bare

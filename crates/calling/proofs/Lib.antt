@@ -1,0 +1,4 @@
+pub mod Drum
+pub mod Board
+pub mod Runs
+pub mod Fresh

@@ -1,0 +1,1 @@
+// A board's calls by one plan, as a caller meets them: no code.

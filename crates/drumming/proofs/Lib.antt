@@ -1,0 +1,4 @@
+pub mod Standing
+pub mod Under
+pub mod Drumming
+pub mod Alike

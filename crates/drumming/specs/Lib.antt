@@ -1,0 +1,2 @@
+pub mod Drumming
+pub mod Alike

@@ -1,0 +1,1 @@
+// A drum by one good plan: no code.

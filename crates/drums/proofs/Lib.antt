@@ -1,0 +1,4 @@
+pub mod Parts
+pub mod Calls
+pub mod Tests
+pub mod Steps

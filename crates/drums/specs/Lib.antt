@@ -1,0 +1,2 @@
+pub mod Drums
+pub mod Sound

@@ -1,0 +1,4 @@
+pub mod Sums
+pub mod Behind
+pub mod Finishing
+pub mod Boards

@@ -1,0 +1,1 @@
+// What a drum still wants to finish: no code.
