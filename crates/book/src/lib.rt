@@ -14,7 +14,7 @@ use names::{NAMES, find_bad};
 use words::u16_at;
 
 // A node of a book, by document 01's type table. Bytes that are no node never come past the form test.
-#[derive(Drop)]
+#[derive(Clone, Copy)]
 pub enum Node {
     Fail,
     Empty,
@@ -26,7 +26,7 @@ pub enum Node {
 }
 
 // A node's type, by its number in document 01's type table; `None` for a number that is no type.
-#[derive(Drop)]
+#[derive(Clone, Copy)]
 pub enum NodeType {
     Fail,
     Empty,
@@ -39,7 +39,7 @@ pub enum NodeType {
 }
 
 // The left and the right of a node, and what they are held against: how many kinds and nodes there are, its own number.
-#[derive(Drop)]
+#[derive(Clone, Copy)]
 pub struct Fields {
     pub kinds: usize,
     pub count: usize,
@@ -297,7 +297,7 @@ pub const NODE: u32 = 4;
 
 // What a form test answers: done or a refusal's number, with its place.
 #[repr(C)]
-#[derive(Drop)]
+#[derive(Clone, Copy)]
 pub struct Judged {
     pub number: u32,
     pub place: u32,

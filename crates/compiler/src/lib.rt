@@ -25,7 +25,7 @@ const SMALL_BOOK: usize = 64;
 
 // What compiling answers; of a conflict the flag that both sides are nullable, and the set of the kinds that clash.
 #[repr(C)]
-#[derive(Drop)]
+#[derive(Clone, Copy)]
 pub struct Compiled {
     pub number: u32,
     pub place: u32,

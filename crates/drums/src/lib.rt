@@ -40,7 +40,7 @@ pub const MOST_DUE: usize = 65535;
 
 // A drum: its holding slots, how many parts it holds, its events and records so far, the events still due.
 #[repr(C)]
-#[derive(Drop)]
+#[derive(Clone, Copy)]
 pub struct Drum {
     pub slots: [u32; 64],
     pub held: u32,
@@ -50,7 +50,7 @@ pub struct Drum {
 }
 
 // What a call answers, and how the drum then stands.
-#[derive(Drop)]
+#[derive(Clone, Copy)]
 pub struct Stepped {
     pub reading: Reading,
     pub drum: Drum,

@@ -32,7 +32,7 @@ pub const LONGEST_BOOK: usize = 4184;
 const EVENT_ROOM: usize = 4096;
 
 // What an input can be.
-#[derive(Drop)]
+#[derive(Clone, Copy)]
 enum Shape {
     TooLong,
     TooShort,

@@ -178,7 +178,7 @@ fn hand_book(
 }
 
 // What is settled of a sheet: 26 to 29 with its place; or 0, and how many nodes, rules and kinds are put down.
-#[derive(Drop)]
+#[derive(Clone, Copy)]
 pub struct Settled {
     pub number: u32,
     pub place: usize,

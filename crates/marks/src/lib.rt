@@ -11,7 +11,7 @@ use prints::{add_bytes, add_spaced, add_spaces};
 use words::wide;
 
 // The number of a line, and the place where it starts.
-#[derive(Drop)]
+#[derive(Clone, Copy)]
 pub struct Position {
     pub line: usize,
     pub start: usize,

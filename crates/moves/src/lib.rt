@@ -167,7 +167,7 @@ pub fn back(book: &[u8], house: &[u8], out: &mut [u8]) -> Written
 }
 
 // Where the name of a kind is looked up.
-#[derive(Drop)]
+#[derive(Clone, Copy)]
 pub enum Source {
     Nowhere,
     Book,
@@ -197,7 +197,7 @@ fn source_of(book: &[u8], house: &[u8], kind: usize) -> Source
 
 // A part of the book, 1, or of the house list, 2, by offset and size; all 0 where there is none.
 #[repr(C)]
-#[derive(Drop)]
+#[derive(Clone, Copy)]
 pub struct Part {
     pub from: u32,
     pub offset: u32,

@@ -102,7 +102,7 @@ fn name_good(bytes: &[u8], base: usize, n: usize, at: usize) -> bool
 }
 
 // What a look at names finds: whether they are good, and the first bad one, or their count.
-#[derive(Drop)]
+#[derive(Clone, Copy)]
 pub struct Found {
     pub good: bool,
     pub place: usize,

@@ -13,7 +13,7 @@ use spelling::{begins_factor, ends_expression, is_empty, letters_end, look, skip
 
 // Where a reader has come to: whether the text is good so far; the place it has come to, or where it went wrong; how
 // many nodes there are then, 513 for more than 512; and where the part began.
-#[derive(Drop)]
+#[derive(Clone, Copy)]
 pub struct Cursor {
     pub good: bool,
     pub at: usize,
@@ -22,7 +22,7 @@ pub struct Cursor {
 }
 
 // Where a rule's reader has come to, and the place of the rule's name.
-#[derive(Drop)]
+#[derive(Clone, Copy)]
 pub struct RuleRead {
     pub good: bool,
     pub at: usize,
@@ -32,7 +32,7 @@ pub struct RuleRead {
 
 // What a sheet's reader has found: a sheet with so many nodes and rules, each 513 for more than 512; or the place where
 // it goes wrong or more is due.
-#[derive(Drop)]
+#[derive(Clone, Copy)]
 pub struct Outline {
     pub good: bool,
     pub place: usize,

@@ -32,7 +32,7 @@ const MOST: u32 = 514;
 
 // What is answered of a book: number, place, and the greatest number of parts held.
 #[repr(C)]
-#[derive(Drop)]
+#[derive(Clone, Copy)]
 pub struct Depth {
     pub number: u32,
     pub place: u32,
@@ -40,7 +40,7 @@ pub struct Depth {
 }
 
 // What is known of the left or right of a node: whether it is productive, and how many weights its ways weigh at least.
-#[derive(Drop)]
+#[derive(Clone, Copy)]
 struct Side {
     makes: bool,
     weight: u32,

@@ -41,7 +41,7 @@ pub const EMPTY: usize = 32768;
 
 // How the machine stands: the answer's number, 0 where it may go on; whether the slots still have the parts held
 // before; the parts held; the records written.
-#[derive(Drop)]
+#[derive(Clone, Copy)]
 pub struct Spot {
     pub number: u32,
     pub intact: bool,
@@ -51,7 +51,7 @@ pub struct Spot {
 
 // What a reading answers.
 #[repr(C)]
-#[derive(Drop)]
+#[derive(Clone, Copy)]
 pub struct Reading {
     pub number: u32,
     pub place: u32,
@@ -62,7 +62,7 @@ pub struct Reading {
 
 // Where the events of a run stop: the refusal's number, 0 at their end; whether the slots still have the parts held
 // before the event refused; its place, or the run's length; the parts held and the records written before it.
-#[derive(Drop)]
+#[derive(Clone, Copy)]
 pub struct Stop {
     pub number: u32,
     pub intact: bool,

@@ -197,7 +197,7 @@ pub fn collect(
 }
 
 // A node as it is written: type, left and right.
-#[derive(Drop)]
+#[derive(Clone, Copy)]
 pub struct NodeLine {
     pub sort: usize,
     pub left: usize,

@@ -21,7 +21,7 @@ pub const TABLE: usize = 2048;
 pub const MARKS: usize = 8;
 
 // The facts of a node: productive and nullable as no kind or all kinds, FIRST and SNF as sets of kinds.
-#[derive(Drop)]
+#[derive(Clone, Copy)]
 pub struct NodeFacts {
     pub productive: u64,
     pub nullable: u64,

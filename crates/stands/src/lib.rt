@@ -13,7 +13,7 @@ use spelling::{is_blank, is_letter};
 // How a reading stands: a name is due; in a name of so many letters, which is so much of `empty`; `=` is due; within so
 // many parentheses a factor is due, in a word of so many letters, after a factor that may have a star, after one that
 // may not.
-#[derive(Drop)]
+#[derive(Clone, Copy)]
 pub enum Stand {
     NameDue,
     InName(usize, usize),

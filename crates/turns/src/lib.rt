@@ -14,7 +14,7 @@ use trees::Due;
 
 // Where the reading of a tree stands: what is due; how many of the parts due behind it are kept in slots, and how many
 // are not; how many events have come.
-#[derive(Drop)]
+#[derive(Clone, Copy)]
 pub struct Spot {
     pub due: Due,
     pub kept: usize,

@@ -34,7 +34,7 @@ const SLOTS: usize = 64;
 const SMALL_BOOK: usize = 64;
 
 // What a tree comes to: whether it is one, the place where it goes wrong or ends, and its events.
-#[derive(Drop)]
+#[derive(Clone, Copy)]
 pub struct Outcome {
     pub whole: bool,
     pub place: usize,

@@ -21,7 +21,7 @@ pub const CONFLICT: u32 = 6;
 pub const UNUSED: u32 = 22;
 
 // What judging a book answers; of a conflict the flag that both sides are nullable, and the set of the kinds that clash.
-#[derive(Drop)]
+#[derive(Clone, Copy)]
 pub struct Verdict {
     pub number: u32,
     pub place: u32,
@@ -30,7 +30,7 @@ pub struct Verdict {
 }
 
 // What clashes at a node: 1 if both sides are nullable, else 0, and the kinds.
-#[derive(Drop)]
+#[derive(Clone, Copy)]
 struct Clash {
     both: u64,
     kinds: u64,

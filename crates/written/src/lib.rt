@@ -11,7 +11,7 @@ pub const OUT_ROOM: u32 = 21;
 
 // What a call that writes bytes answers.
 #[repr(C)]
-#[derive(Drop)]
+#[derive(Clone, Copy)]
 pub struct Written {
     pub number: u32,
     pub size: u32,
