@@ -1,0 +1,28 @@
+-- `book::type_of` meets its contract: an arm for each number of the type table.
+use mathlib.Core.Path.{sym}
+use Rattle.book.proofs.Types.{no_type}
+use Rattle.book.proofs.type_of.Goals as goal
+
+pub returns-in-0 : goal.returns-in-0
+returns-in-0 c = rw c.in-0.is
+
+pub returns-in-1 : goal.returns-in-1
+returns-in-1 c = rw c.in-1.is
+
+pub returns-in-2 : goal.returns-in-2
+returns-in-2 c = rw c.in-2.is
+
+pub returns-in-3 : goal.returns-in-3
+returns-in-3 c = rw c.in-3.is
+
+pub returns-in-4 : goal.returns-in-4
+returns-in-4 c = rw c.in-4.is
+
+pub returns-in-5 : goal.returns-in-5
+returns-in-5 c = rw c.in-5.is
+
+pub returns-in-6 : goal.returns-in-6
+returns-in-6 c = rw c.in-6.is
+
+pub returns-in_default : goal.returns-in_default
+returns-in_default c = sym (no_type c.args.number c.in_default.rest)

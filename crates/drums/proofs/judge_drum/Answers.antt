@@ -1,0 +1,35 @@
+-- `drums::judge_drum` meets its contract, by each of its tests.
+use mathlib.Core.Path.{sym}
+use native.Mathlib.Omega.{arith}
+use borrow.Author.Tests.{not-true, not-false}
+use Rattle.drums.proofs.Tests.{drum_idle, drum_far, drum_astray, drum_done, near_counts, sound_by}
+use Rattle.drums.proofs.judge_drum.Goals as goal
+
+pub returns-then-is_idle : goal.returns-then-is_idle
+returns-then-is_idle c = (drum_idle _ _ c.is_idle.ensures c.if-is_idle.true, λ e. absurd (omega (arith, e)))
+
+pub returns-then-d : goal.returns-then-d
+returns-then-d c =
+    (drum_far _ _ c.is_idle.ensures c.if-is_idle.false c.if-d.true, λ e. absurd (omega (arith, e)))
+
+pub nodes_held-requires : goal.nodes_held-requires
+nodes_held-requires c =
+    omega (
+      arith,
+      (near_counts c.args.d c.if-d.false).0,
+      slice-aggregate-nodes-held (goal.at.nodes_held-requires c).After-slots-2-1,
+    )
+
+pub returns-then-not-nodes_held : goal.returns-then-not-nodes_held
+returns-then-not-nodes_held c = (
+  drum_astray _ _ c.is_idle.ensures c.if-is_idle.false c.if-d.false c.nodes_held.ensures.0
+      (not-true _ c.if-not-nodes_held.true),
+  λ e. absurd (omega (arith, e)),
+)
+
+pub returns : goal.returns
+returns c =
+    let hold = not-false _ c.if-not-nodes_held.false in (
+      drum_done _ _ c.is_idle.ensures c.if-is_idle.false c.if-d.false c.nodes_held.ensures.0 hold,
+      λ e. sound_by _ _ c.if-d.false (c.nodes_held.ensures.1 hold) (sym (slice-aggregate-nodes-held (goal.at.returns c).After-slots-2-1)),
+    )

@@ -1,0 +1,34 @@
+-- `plan::plan_good` meets its contract: the length is tested first, then the rest at once.
+use mathlib.Core.Path.{◌≡◌, sym, ◌∙◌}
+use mathlib.Core.Bool.{true}
+use native.Mathlib.Omega.{arith}
+use borrow.Author.Tests.{not-true, not-false}
+use lib.ListN.{length}
+use Rattle.plan.specs.Form.{size_good, plan_good}
+use Rattle.plan.proofs.Laws.{Sized, sized}
+use Rattle.plan.proofs.plan_good.Goals as goal
+
+-- the length is good past the first test
+size-test : (c : goal.Else-not-size_good) → size_good (length c.args.plan.now) c.args.count c.args.kinds ≡ true
+size-test c = sym c.size_good.ensures ∙ not-false _ c.if-not-size_good.false
+
+size_is : (c : goal.Else-not-size_good) → Sized (length c.args.plan.now) c.args.count c.args.kinds
+size_is c = sized _ _ _ (size-test c)
+
+pub returns-then-not-size_good : goal.returns-then-not-size_good
+unfolding plan_good
+returns-then-not-size_good c = rw (sym c.size_good.ensures ∙ not-true _ c.if-not-size_good.true)
+
+pub plan_contents_good-requires : goal.plan_contents_good-requires
+plan_contents_good-requires c = omega (arith, size_is (goal.at.plan_contents_good-requires c).Else-not-size_good)
+
+pub settings_good-requires : goal.settings_good-requires
+settings_good-requires c = omega (arith, size_is (goal.at.settings_good-requires c).Else-not-size_good)
+
+pub first_bad-requires : goal.first_bad-requires
+first_bad-requires c = omega (arith, size_is (goal.at.first_bad-requires c).Else-not-size_good)
+
+pub returns : goal.returns
+unfolding plan_good
+returns c =
+    rw (size-test (goal.at.returns c).Else-not-size_good, ← c.plan_contents_good.ensures, ← c.settings_good.ensures, ← c.first_bad.ensures)

@@ -1,0 +1,52 @@
+use mathlib.Core.Path.{ap, ◌∙◌}
+use mathlib.Core.Bool.{Bool, false, ◌||◌}
+use native.Mathlib.Omega.{arith}
+use Rattle.rules.proofs.Growing.{grown_sound, grown_then, settling_none, settling_more}
+use Rattle.rules.proofs.Growing.{blank_sound, settling_less}
+use Rattle.rules.proofs.Climbing.{refs_facts}
+use Rattle.rules.proofs.least_facts.Goals as goal
+
+pub visit_all-requires : goal.visit_all-requires
+visit_all-requires c =
+    let pre = c.requires in
+    (pre.0, (pre.1.long, blank_sound pre.1))
+
+pub loop-table-init : goal.loop-table-init
+loop-table-init c =
+    let blank = c.requires.1 in
+    (settling_none (grown_sound c.visit_all.ensures.grown (blank_sound blank)), c.visit_all.ensures.closed)
+
+pub visit_refs-requires : goal.visit_refs-requires
+visit_refs-requires c =
+    let pre = c.requires in
+    let settling = c.loop-table.invariant.0 in
+    (pre.0, (omega (arith, pre.1.long, c.visit_all.ensures.grown.long, settling.long), settling.sound))
+
+pub visit_all-requires-in-loop-table : goal.visit_all-requires-in-loop-table
+visit_all-requires-in-loop-table c =
+    let pre = c.requires in
+    let settling = settling_more c.loop-table.invariant.0 c.visit_refs.ensures.grown in
+    (pre.0, (omega (arith, pre.1.long, c.visit_all.ensures.grown.long, settling.long), settling.sound))
+
+pub loop-table-smaller : goal.loop-table-smaller
+loop-table-smaller c =
+    settling_less c.loop-table.invariant.0
+    (grown_then c.visit_refs.ensures.grown c.visit_all-in-loop-table.ensures.grown)
+    (ap (λ (changed : Bool). changed || c.visit_all-in-loop-table.result) c.loop-table-test.true)
+    (λ i. (c.type_inv.table i).fits)
+
+pub loop-table-preserved : goal.loop-table-preserved
+loop-table-preserved c =
+    let settling = settling_more c.loop-table.invariant.0 c.visit_refs.ensures.grown in
+    (settling_more settling c.visit_all-in-loop-table.ensures.grown, c.visit_all-in-loop-table.ensures.closed)
+
+pub shape_of-table : goal.shape_of-table
+shape_of-table c =
+    (settling_more c.loop-table.invariant.0 c.visit_refs.ensures.grown).long
+    ∙ c.visit_all.ensures.grown.long
+
+pub returns : goal.returns
+returns c =
+    let pre = c.requires in
+    let (settling, closed) = c.loop-table.invariant in
+    refs_facts pre.0.proper settling.sound closed c.visit_refs.ensures c.loop-table-test.false

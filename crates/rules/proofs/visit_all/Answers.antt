@@ -1,0 +1,24 @@
+use Prim.Native.Nat.{◌-◌}
+use native.Mathlib.Omega.{arith}
+use Rattle.rules.proofs.Growing.{grown_sound}
+use Rattle.rules.proofs.Climbing.{climbed_none, climbed_more, climbed_end}
+use Rattle.rules.proofs.visit_all.Goals as goal
+
+pub loop-i-init : goal.loop-i-init
+loop-i-init c = climbed_none _
+
+pub visit-changed-requires : goal.visit-changed-requires
+visit-changed-requires c =
+    let climbed = c.loop-i.invariant in
+    let pre = c.requires in
+    (pre.0, (c.loop-i-test.true, (omega (arith, climbed.grown.long, pre.1.0), grown_sound climbed.grown pre.1.1)))
+
+pub loop-i-preserved : goal.loop-i-preserved
+loop-i-preserved c =
+    climbed_more c.requires.0.proper c.loop-i-test.true c.loop-i.invariant c.visit-changed.ensures
+
+pub shape_of-table : goal.shape_of-table
+shape_of-table c = c.loop-i.invariant.grown.long
+
+pub returns : goal.returns
+returns c = climbed_end c.loop-i-test.false c.loop-i.invariant

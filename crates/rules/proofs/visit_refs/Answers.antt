@@ -1,0 +1,28 @@
+use Prim.Native.Nat.{◌-◌}
+use native.Mathlib.Omega.{arith}
+use Rattle.rules.proofs.Growing.{turning_none, turning_more, turning_end, grown_sound}
+use Rattle.rules.proofs.visit_refs.Goals as goal
+
+pub loop-i-init : goal.loop-i-init
+loop-i-init c = turning_none _
+
+pub visit_ref-changed-requires : goal.visit_ref-changed-requires
+visit_ref-changed-requires c =
+    let turning = c.loop-i.invariant in
+    let pre = c.requires in (
+      pre.0,
+      (
+        c.visited.ensures.1,
+        (omega (arith, turning.grown.long, pre.1.0), grown_sound turning.grown pre.1.1),
+      ),
+    )
+
+pub loop-i-preserved : goal.loop-i-preserved
+loop-i-preserved c =
+    turning_more c.loop-i.invariant c.visited.ensures.0 c.visit_ref-changed.ensures
+
+pub shape_of-table : goal.shape_of-table
+shape_of-table c = c.loop-i.invariant.grown.long
+
+pub returns : goal.returns
+returns c = turning_end c.loop-i.invariant c.loop-i-test.false

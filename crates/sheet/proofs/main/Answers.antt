@@ -1,0 +1,31 @@
+-- `sheet::main` meets its contract: its buffers suffice, so there is something to write for every input.
+use borrow.Author.Rules.{rules}
+use borrow.Author.Tests.{lt-ltb}
+use Prim.Native.Nat.{◌≤◌, ◌<◌}
+use mathlib.Core.Path.{sym}
+use lib.ListN.{length}
+use lib.Seq.{length-take-le}
+use Rattle.shown.proofs.Buffers.{answers_some}
+use Rattle.sheet.proofs.main.Goals as goal
+
+-- what `show` wrote
+written : (c : goal.After-show-count) → (0 < c.show-count.result) × (c.show-count.result ≤ length c.show-count.new.1.1.0)
+written c =
+    answers_some _ _ _ _ _
+    (record {
+      decides = search rules;
+      read = search rules;
+      lines = search rules;
+      bytes = search rules;
+      cells = search rules;
+    })
+    c.show-count.ensures
+
+pub expect-requires : goal.expect-requires
+expect-requires c = lt-ltb _ _ (written (goal.at.expect-requires c).After-show-count).0
+
+pub slice_bounds-out-end : goal.slice_bounds-out-end
+slice_bounds-out-end c = (written (goal.at.slice_bounds-out-end c).After-show-count).1
+
+pub slice_bounds-write_all-end : goal.slice_bounds-write_all-end
+slice_bounds-write_all-end c = sym (length-take-le _ _ (written (goal.at.slice_bounds-write_all-end c).After-show-count).1)

@@ -1,0 +1,12 @@
+-- `stands::add_factor` meets its contract.
+use borrow.Author.Tests.{lt-ltb, le-ltb}
+use Rattle.stands.specs.Stands.{due_text}
+use Rattle.stands.proofs.add_factor.Goals as goal
+
+pub returns-then-opens-lt32 : goal.returns-then-opens-lt32
+unfolding due_text
+returns-then-opens-lt32 c = rw (lt-ltb _ _ c.if-opens-lt32.true) c.add_bytes.ensures
+
+pub returns : goal.returns
+unfolding due_text
+returns c = rw (le-ltb _ _ c.if-opens-lt32.false) c.add_bytes-2.ensures

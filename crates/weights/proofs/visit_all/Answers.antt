@@ -1,0 +1,28 @@
+use Prim.Native.Nat.{◌-◌}
+use native.Mathlib.Omega.{arith}
+use Rattle.rules.proofs.Growing.{turning_none, turning_more, turning_end, grown_sound}
+use Rattle.weights.proofs.visit_all.Goals as goal
+
+pub loop-i-init : goal.loop-i-init
+loop-i-init c = turning_none _
+
+pub visit-changed-requires : goal.visit-changed-requires
+visit-changed-requires c =
+    let turning = c.loop-i.invariant in
+    let pre = c.requires in (
+      pre.0,
+      (
+        c.visited.ensures.1,
+        (omega (arith, turning.grown.long, pre.1.0), grown_sound turning.grown pre.1.1),
+      ),
+    )
+
+pub loop-i-preserved : goal.loop-i-preserved
+loop-i-preserved c =
+    turning_more c.loop-i.invariant c.visited.ensures.0 c.visit-changed.ensures
+
+pub shape_of-weights : goal.shape_of-weights
+shape_of-weights c = c.loop-i.invariant.grown.long
+
+pub returns : goal.returns
+returns c = turning_end c.loop-i.invariant c.loop-i-test.false
