@@ -64,7 +64,7 @@ write_named-requires c =
       form = before.0;
       house_good_lem = before.1;
       end_is = end_is (goal.at.write_named-requires c).After-name_at-end;
-      (goal.at.write_named-requires c).Else-out-size = omega (arith, size_is (goal.at.write_named-requires c).After-count_in, c.if-out-size.false, clear_long (length c.args.out.now) clear);
+      fits = omega (arith, size_is (goal.at.write_named-requires c).After-count_in, c.if-out-size.false, clear_long (length c.args.out.now) clear);
       clear = clear_is (length c.args.out.now) clear;
     }
 

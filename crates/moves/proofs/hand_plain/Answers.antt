@@ -37,7 +37,7 @@ write_plain-requires c =
     let clear = c.clear_bytes.ensures in
     record {
       form = c.requires;
-      (goal.at.write_plain-requires c).Else-out-size = omega (arith, size_is (goal.at.write_plain-requires c).After-count_in, c.if-out-size.false, clear_long (length c.args.out.now) clear);
+      fits = omega (arith, size_is (goal.at.write_plain-requires c).After-count_in, c.if-out-size.false, clear_long (length c.args.out.now) clear);
       clear = clear_is (length c.args.out.now) clear;
     }
 

@@ -30,7 +30,7 @@ columns c =
     column_good args.plan.now args.at args.kinds args.one args.other
 
 -- past the kinds the search stands at the last cell
-last : (c : goal.After-loop-column → Searched (columns c) (c.args.kinds + 1) c.args.kinds
+last : (c : goal.After-loop-column) → Searched (columns c) (c.args.kinds + 1) c.args.kinds
 last c = at_last (Searched _ _) c.loop-column.invariant.0 c.loop-column.invariant.1 c.loop-column-test.false
 
 pub returns-then-plan-at-le1 : goal.returns-then-plan-at-le1

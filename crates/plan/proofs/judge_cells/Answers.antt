@@ -28,7 +28,7 @@ cells v =
     cells_of _ _ _ v.node_at-node.ensures v.one_cell-one.ensures v.other_cell-other.ensures
 
 -- the column that is found is one of the row's
-column-small : (c : goal.After-bad_column-column → c.bad_column-column.result ≤ c.args.kinds
+column-small : (c : goal.After-bad_column-column) → c.bad_column-column.result ≤ c.args.kinds
 column-small c =
     rw c.bad_column-column.ensures
     (ltb-false _ _ (sym c.row_good.ensures ∙ not-true _ c.if-not-row_good.true))
@@ -60,12 +60,11 @@ pub overflow_add-at-in-loop-n : goal.overflow_add-at-in-loop-n
 overflow_add-at-in-loop-n c = omega (arith, row_in (goal.at.overflow_add-at-in-loop-n c).In-loop-n)
 
 pub loop-n-preserved : goal.loop-n-preserved
-loop-n-preserved c =
-    (
-      search rules,
-      rows_more _ _ _ c.loop-n.invariant.1 c.loop-n-test.true (cells (goal.at.loop-n-preserved c).After-row_good) c.row_good.ensures
-          (not-false _ c.if-not-row_good.false),
-    )
+loop-n-preserved c = (
+  search rules,
+  rows_more _ _ _ c.loop-n.invariant.1 c.loop-n-test.true (cells (goal.at.loop-n-preserved c).After-row_good) c.row_good.ensures
+      (not-false _ c.if-not-row_good.false),
+)
 
 pub returns : goal.returns
 returns c = rows_all _ _ _ c.loop-n.invariant.1 c.loop-n-test.false

@@ -21,7 +21,7 @@ columns c =
     column_good args.plan.now args.at args.kinds args.one args.other
 
 -- past the kinds the tests of all kinds are joined
-kinds-joined : (c : goal.After-loop-column → Joined (columns c) c.args.kinds c.loop-column.all
+kinds-joined : (c : goal.After-loop-column) → Joined (columns c) c.args.kinds c.loop-column.all
 kinds-joined c =
     let inv = c.loop-column.invariant in
     at_last (λ j. Joined (columns c) j c.loop-column.all) inv.0 inv.1 c.loop-column-test.false

@@ -14,7 +14,7 @@ returns c =
     record {
       answer = c.compile-answer.result;
       plan = c.compile-answer.new.1.0;
-      (goal.at.returns c).After-place-from = c.place-from.result;
+      from = c.place-from.result;
       compiled = rw c.requires.cells at c.compile-answer.ensures;
       placed = c.place-from.ensures;
       told =
