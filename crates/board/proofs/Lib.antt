@@ -1,5 +1,3 @@
 pub mod Calls
 pub mod Isolation
-pub mod Thin
-pub mod Kinded
-pub mod Bare
+pub mod Lent

@@ -1,12 +1,14 @@
 // The listing program: reads a book and a run from standard input, and writes the run's records, or what is refused.
 #![tactic(auto)]
 
-use libc::{STDIN_FILENO, STDOUT_FILENO};
+use input::fill;
+use std::io;
+use std::io::Write;
 
-fn main() {
+fn main(rt: HostRuntime) -> io::Result<()> {
     // The length, the longest book, 4,096 events and one event more: no later byte changes what is written.
     let mut input = [0u8; 8283];
-    let size = io::read_full(STDIN_FILENO, &mut input);
+    let size = fill(&mut rt.reader(), &mut input)?;
     // The first line, and 8,192 lines of records.
     let mut out = [0u8; 57393];
     // The largest plan.
@@ -15,6 +17,6 @@ fn main() {
     let mut tree = [0u16; 8192];
     let count = listed::list(&input, size, &mut out, &mut plan, &mut held, &mut tree);
     // The buffers suffice: there is always something to write.
-    check::expect(0 < count);
-    io::write_all(STDOUT_FILENO, &out[..count]);
+    prove!(0 < count);
+    rt.stdout().write_all(&out[..count])
 }
