@@ -1,8 +1,6 @@
 use mathlib.Core.Path.{sym, ◌∙◌}
-use Prim.Native.Nat.{◌-◌}
 use native.Mathlib.Omega.{arith}
 use Rattle.words.proofs.FirstBad.{searched_none, searched_more, searched_bad, searched_all}
-use Rattle.names.specs.Names.{name_good}
 use Rattle.names.proofs.Places.{name_first, at_next, good_whole, bad_found, none_found}
 use Rattle.names.proofs.find_bad.Goals as goal
 
