@@ -1,5 +1,5 @@
 -- A form that holds a book: contents, the numbers of the book's settings and nodes, then anything. What is read there is the book.
-use mathlib.Core.Path.{◌≡◌, refl, sym, ap, ◌∙◌}
+use mathlib.Core.Path.{◌≡◌, refl, sym, subst, ap, ◌∙◌}
 use mathlib.Core.Bool.{true, ◌&&◌}
 use mathlib.Core.List.{List, [], ◌∷◌, ◌++◌, append_assoc}
 use Prim.Native.Nat.{ℕ, zero, suc, ◌+◌, ◌*◌, ◌≤◌, ◌<◌}
@@ -190,7 +190,8 @@ module _ (sizes : List ℕ) (b : Book) (rest : List ℕ) where
     -- contents, settings and nodes pass their tests
     pub contents_good_lem : contents_are bytes sizes ≡ true
     contents_good_lem =
-        rw (words_append (contents_of sizes) (body_words b), append_assoc)
+        subst (λ (l : List ℕ). contents_are l sizes ≡ true)
+        (sym (rw (words_append (contents_of sizes) (body_words b), append_assoc)))
         (contents_are_those sizes (word_bytes (body_words b) ++ rest) small)
 
     pub settings_good_lem : settings_good bytes at count ≡ true

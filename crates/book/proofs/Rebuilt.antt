@@ -14,7 +14,7 @@ use Rattle.words.proofs.Bytes.{length_words}
 use Rattle.words.proofs.FirstBad.{first_none}
 use Rattle.words.proofs.Tests.{joined, both, never}
 use Rattle.forms.specs.Forms.{contents_of, words_are}
-use Rattle.forms.proofs.Contents.{length_contents, words_are, words_joined, words_stand}
+use Rattle.forms.proofs.Contents.{length_contents, words_are_lem, words_joined, words_stand}
 use Rattle.names.specs.Names.{names_good, names_bytes, GoodNames}
 use Rattle.names.proofs.Standing.{length_names, names_stand, names_end, names_all, names_read_good}
 use Rattle.book.specs.Book.{Book}
@@ -74,7 +74,7 @@ module _ (bytes : List ℕ) (f : Formed bytes) where
   unfolding book_of node_at node_good
   node_stands n below =
       rw (nodes_below bytes base book.count n below, fields_kept (type_at bytes base n) _ (first_none _ _ f.nodes_good n below))
-      (words_are bytes (base + 6 * n) (fields_at n) each)
+      (words_are_lem bytes (base + 6 * n) (fields_at n) each)
     where
       each : (i : ℕ) → i < 3 → u16_at bytes (base + 6 * n + 2 * i) ≡ get_or (fields_at n) i 0
       each zero below = ap (u16_at bytes) (omega arith)

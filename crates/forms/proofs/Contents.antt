@@ -1,6 +1,6 @@
 -- Laws of forms: what their sizes bound, where sections begin, and bytes that begin with contents.
 use mathlib.Core.Path.{◌≡◌, refl, sym, ap, ◌∙◌}
-use mathlib.Core.Bool.{true, ◌&&◌}
+use mathlib.Core.Bool.{true}
 use mathlib.Core.List.{List, [], ◌∷◌, ◌++◌}
 use Prim.Native.Nat.{ℕ, suc, ◌+◌, ◌*◌, ◌/◌, ◌%◌, ◌≤◌, ◌<◌}
 use native.Mathlib.Nat.{mod-eq_of_lt}
@@ -46,13 +46,13 @@ small_contents sizes small =
     below_more {n = length sizes} (omega (arith, least)) (small_entries 1 _ sizes (omega (arith, least)) small)
 
 -- numbers that stand in bytes one by one stand there
-pub words_are : (bytes : List ℕ) (at : ℕ) (words : List ℕ)
+pub words_are_lem : (bytes : List ℕ) (at : ℕ) (words : List ℕ)
     → ((i : ℕ) → i < length words → u16_at bytes (at + 2 * i) ≡ get_or words i 0)
     → words_are bytes at words ≡ true
-words_are bytes at [] each = refl
-words_are bytes at (word ∷ rest) each =
+words_are_lem bytes at [] each = refl
+words_are_lem bytes at (word ∷ rest) each =
     joined _ _ (eq-eqb _ _ (ap (u16_at bytes) first ∙ each 0 (omega arith)))
-    (words_are bytes (at + 2) rest (λ i below. ap (u16_at bytes) (place i) ∙ each (suc i) (omega arith)))
+    (words_are_lem bytes (at + 2) rest (λ i below. ap (u16_at bytes) (place i) ∙ each (suc i) (omega arith)))
   where
     first : at ≡ at + 2 * 0
     first = omega arith
@@ -63,7 +63,7 @@ words_are bytes at (word ∷ rest) each =
 -- the contents of a form below 65,536 bytes are what they are, whatever follows
 pub contents_are_those : (sizes rest : List ℕ) → form_size sizes < 65536 → contents_are (word_bytes (contents_of sizes) ++ rest) sizes ≡ true
 contents_are_those sizes rest small =
-    words_are _ 0 (contents_of sizes)
+    words_are_lem _ 0 (contents_of sizes)
     (λ i below. ap (u16_at (word_bytes (contents_of sizes) ++ rest)) (from i) ∙ u16_words (small_contents sizes small) rest i below)
   where
     from : (i : ℕ) → 0 + 2 * i ≡ 2 * i

@@ -17,7 +17,7 @@ use Rattle.written.specs.Written.{with_zeros}
 use Rattle.book.specs.Book.{Book}
 use Rattle.book.specs.Encode.{body_words, book_bytes, named_bytes}
 use Rattle.book.specs.Form.{DONE, book_sections, named_sections, settings_at, form_of, book_of}
-use Rattle.book.proofs.Decoded.{Formed, formed, well_formed}
+use Rattle.book.proofs.Decoded.{formed, well_formed}
 use Rattle.book.proofs.Holding.{body_long, holding_parts}
 use Rattle.book.proofs.Rebuilt.{body_part}
 use Rattle.moves.specs.Moves.{house_good, house_names, named_of, plain_of, NamedRoom, PlainRoom}

@@ -23,7 +23,7 @@ use Rattle.book.proofs.Laws.{FormNumber, form_listed}
 use Rattle.book.proofs.Rebuilt.{good_form_bytes, good_named_bytes}
 use Rattle.moves.specs.Moves.{KEPT, own_form, house_good, house_names, named_of, plain_of, same_names, after_forms, forward_of, back_of}
 use Rattle.moves.proofs.Answers.{own_form_lem, own_done, form_refused, house_refused, forms_good}
-use Rattle.moves.proofs.Laid.{few_kinds, house_stands}
+use Rattle.moves.proofs.Laid.{house_stands}
 use Rattle.moves.proofs.SameNames.{same_names_are, are_same_names}
 
 -- ---- what the moves write

@@ -12,10 +12,9 @@ use lib.ListN.{length, get_or}
 use Rattle.words.specs.Lists.{part_at}
 use Rattle.words.proofs.Tests.{both}
 use Rattle.names.specs.Names.{HOUSE-NAMES, past_name, name_at, name_of, names_of}
-use Rattle.names.proofs.Places.{Whole}
-use Rattle.names.proofs.Standing.{Standing, get_d_names, names_stand, names_short}
+use Rattle.names.proofs.Standing.{get_d_names, names_stand, names_short}
 use Rattle.book.specs.Form.{DONE, named, names_at, kinds_of, form_of, book_of, book_names}
-use Rattle.book.proofs.Decoded.{Formed, formed}
+use Rattle.book.proofs.Decoded.{formed}
 use Rattle.book.proofs.Laws.{length-named}
 use Rattle.moves.specs.Look.{source_of, name_in, kind_name, part, name_part, part_in, part_of, part_bytes}
 use Rattle.moves.specs.Moves.{house_good}

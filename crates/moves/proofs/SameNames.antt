@@ -2,7 +2,7 @@
 use mathlib.Core.Path.{◌≡◌, refl, sym, ap, subst, ◌∙◌}
 use mathlib.Core.Bool.{Bool, true, false}
 use mathlib.Core.List.{List, [], ◌∷◌, ◌++◌, append-nil}
-use Prim.Native.Nat.{ℕ, ◌+◌, ◌-◌}
+use Prim.Native.Nat.{ℕ, ◌-◌}
 use native.Mathlib.Omega.{arith}
 use lib.ListN.{length, take, drop, length-drop}
 use lib.Seq.{take_at, drop_at, take_all, drop-length}
@@ -12,7 +12,7 @@ use Rattle.words.proofs.Tests.{both, joined, never, fails}
 use Rattle.names.specs.Names.{name_at, names_bytes}
 use Rattle.names.proofs.Standing.{names_stand, names_end, names_all}
 use Rattle.book.specs.Form.{DONE, named, names_at, kinds_of, form_of, book_of, book_names}
-use Rattle.book.proofs.Decoded.{Formed, formed}
+use Rattle.book.proofs.Decoded.{formed}
 use Rattle.moves.specs.Moves.{house_good, house_names, same_names}
 use Rattle.moves.proofs.Laid.{names_part, names_size}
 

@@ -228,8 +228,8 @@ module _ (bytes : List ℕ) (base : ℕ) where
   all_read : {n : ℕ} (names : List (List ℕ)) {rest : List ℕ} → From bytes base n names rest
       → names_from bytes base (length names) n ≡ names
   unfolding names_from
-  all_read [] f = refl
-  all_read (name ∷ more) f = λ i. name_read f i ∷ all_read more (next_from f) i
+  all_read {n = n} [] f = refl
+  all_read {n = n} (name ∷ more) f = λ i. name_read f i ∷ all_read {n = suc n} more (next_from f) i
 
   past_all : {n : ℕ} (names : List (List ℕ)) {rest : List ℕ} → From bytes base n names rest
       → From bytes base (n + length names) [] rest

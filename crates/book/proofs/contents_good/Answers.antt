@@ -9,23 +9,24 @@ use Rattle.book.specs.Form.{named, few_nodes, names_at}
 use Rattle.book.proofs.Laws.{settings_plain, settings_named, few_nodes_are}
 use Rattle.book.proofs.Laws.{contents_few, contents_cut, contents_plain, contents_named}
 use Rattle.book.proofs.contents_good.Goals as goal
+use Rattle.book.proofs.contents_good.Goals.{Else-has_names, Else-not-count, Else-size-names_at, Then-has_names}
 
-few : (c : goal.Else-not-count) → few_nodes c.args.bytes.now ≡ true
-few c = rw (← c.count_of-count.ensures) (not-false _ c.if-not-count.false)
+few : (c : Else-not-count) → few_nodes c.args.bytes.now ≡ true
+few c = rw (← c.count_of-count.ensures) (c.if-not-count.false)
 
 -- where the nodes are all there, and the names begin within the bytes
-within : (c : goal.Else-size-names_at) → let bytes = c.args.bytes.now in names_at bytes ≤ length bytes
+within : (c : Else-size-names_at) → let bytes = c.args.bytes.now in names_at bytes ≤ length bytes
 within c =
     omega (arith, c.settings_at.ensures.0, c.count_of-count.ensures, c.if-size-names_at.false)
 
-names : (c : goal.Then-has_names) → named c.args.bytes.now ≡ true
+names : (c : Then-has_names) → named c.args.bytes.now ≡ true
 names c = sym c.has_names.ensures ∙ c.if-has_names.true
 
-plain : (c : goal.Else-has_names) → named c.args.bytes.now ≡ false
+plain : (c : Else-has_names) → named c.args.bytes.now ≡ false
 plain c = sym c.has_names.ensures ∙ c.if-has_names.false
 
 pub returns-then-not-count : goal.returns-then-not-count
-returns-then-not-count c = sym (contents_few _ (rw (← c.count_of-count.ensures) (not-true _ c.if-not-count.true)))
+returns-then-not-count c = sym (contents_few _ (rw (← c.count_of-count.ensures) (c.if-not-count.true)))
 
 pub overflow_add-names_at : goal.overflow_add-names_at
 overflow_add-names_at c = omega (arith, c.settings_at.ensures.1)

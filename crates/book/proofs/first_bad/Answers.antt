@@ -10,11 +10,11 @@ loop-n-init c = searched_none _ _
 
 pub returns-then-not-node_good : goal.returns-then-not-node_good
 returns-then-not-node_good c = searched_bad _ c.loop-n.invariant c.loop-n-test.true
-    (sym c.node_good.ensures ∙ not-true _ c.if-not-node_good.true)
+    (sym c.node_good.ensures ∙ c.if-not-node_good.true)
 
 pub loop-n-preserved : goal.loop-n-preserved
 loop-n-preserved c = searched_more _ c.loop-n.invariant c.loop-n-test.true
-    (sym c.node_good.ensures ∙ not-false _ c.if-not-node_good.false)
+    (sym c.node_good.ensures ∙ c.if-not-node_good.false)
 
 pub returns : goal.returns
 returns c = searched_all _ c.loop-n.invariant c.loop-n-test.false

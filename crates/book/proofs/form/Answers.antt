@@ -8,43 +8,34 @@ use Rattle.book.specs.Form.{settings_at, count_of, bad_node, length_good, conten
 use Rattle.book.proofs.Laws.{Sized, sized, length_least, settings_say}
 use Rattle.book.proofs.Laws.{form_length, form_contents, form_settings, form_node, form_names}
 use Rattle.book.proofs.form.Goals as goal
+use Rattle.book.proofs.form.Goals.{After-first_bad-bad, After-settings_good, Else-not-contents_good, Else-not-length_good}
 
 -- the tests that have been passed: length, contents, settings
-length_is : (c : goal.Else-not-length_good) → length_good c.args.bytes.now ≡ true
-length_is c = sym c.length_good.ensures ∙ not-false _ c.if-not-length_good.false
+length_is : (c : Else-not-length_good) → length_good c.args.bytes.now ≡ true
+length_is c = sym c.length_good.ensures ∙ c.if-not-length_good.false
 
-contents-is : (c : goal.Else-not-contents_good) → contents_good c.args.bytes.now ≡ true
-contents-is c = sym c.contents_good.ensures ∙ not-false _ c.if-not-contents_good.false
+contents-is : (c : Else-not-contents_good) → contents_good c.args.bytes.now ≡ true
+contents-is c = sym c.contents_good.ensures ∙ c.if-not-contents_good.false
 
-size_is : (c : goal.Else-not-contents_good) → Sized c.args.bytes.now
+size_is : (c : Else-not-contents_good) → Sized c.args.bytes.now
 size_is c = (sized _ (contents-is c)).0
 
 -- the answer of the test of settings is theirs, by what was read
-settings-are : (c : goal.After-settings_good)
+settings-are : (c : After-settings_good)
     → let bytes = c.args.bytes.now in
     settings_good bytes (settings_at bytes) (count_of bytes) ≡ c.settings_good.result
 settings-are c =
     rw (← c.settings_at-settings.ensures.0, ← c.count_of-count.ensures) (sym c.settings_good.ensures)
 
 -- the first node against the type table, by what was read
-bad-is : (c : goal.After-first_bad-bad)
+bad-is : (c : After-first_bad-bad)
     → let bytes = c.args.bytes.now in
     c.first_bad-bad.result ≡ bad_node bytes
 bad-is c =
     c.first_bad-bad.ensures ∙ rw (c.u16_at-kinds.ensures.0, c.settings_at-settings.ensures.0, c.count_of-count.ensures)
 
-bad-below : (c : goal.Then-bad-count)
-    → let bytes = c.args.bytes.now in
-    bad_node bytes < count_of bytes
-bad-below c = rw (← bad-is (c AS After-first_bad-bad), ← c.count_of-count.ensures) c.if-bad-count.true
-
-none_bad : (c : goal.Else-bad-count)
-    → let bytes = c.args.bytes.now in
-    count_of bytes ≤ bad_node bytes
-none_bad c = rw (← bad-is (c AS After-first_bad-bad), ← c.count_of-count.ensures) c.if-bad-count.false
-
 pub returns-then-not-length_good : goal.returns-then-not-length_good
-returns-then-not-length_good c = sym (form_length _ (sym c.length_good.ensures ∙ not-true _ c.if-not-length_good.true))
+returns-then-not-length_good c = sym (form_length _ (sym c.length_good.ensures ∙ c.if-not-length_good.true))
 
 pub contents_good-requires : goal.contents_good-requires
 contents_good-requires c = length_least _ (length_is (goal.at.contents_good-requires c).Else-not-length_good)
@@ -53,7 +44,7 @@ pub returns-then-not-contents_good : goal.returns-then-not-contents_good
 returns-then-not-contents_good c =
     sym
     (form_contents _ (length_is (goal.at.returns-then-not-contents_good c).Else-not-length_good)
-    (sym c.contents_good.ensures ∙ not-true _ c.if-not-contents_good.true))
+    (sym c.contents_good.ensures ∙ c.if-not-contents_good.true))
 
 pub count_of-count-requires : goal.count_of-count-requires
 count_of-count-requires c = length_least _ (length_is (goal.at.count_of-count-requires c).Else-not-length_good)
@@ -68,7 +59,7 @@ settings_good-requires c =
 
 pub returns-then-not-settings_good : goal.returns-then-not-settings_good
 returns-then-not-settings_good c =
-    sym (form_settings _ (length_is (goal.at.returns-then-not-settings_good c).Else-not-length_good) (contents-is (goal.at.returns-then-not-settings_good c).Else-not-contents_good) (settings-are (goal.at.returns-then-not-settings_good c).After-settings_good ∙ not-true _ c.if-not-settings_good.true))
+    sym (form_settings _ (length_is (goal.at.returns-then-not-settings_good c).Else-not-length_good) (contents-is (goal.at.returns-then-not-settings_good c).Else-not-contents_good) (settings-are (goal.at.returns-then-not-settings_good c).After-settings_good ∙ c.if-not-settings_good.true))
 
 pub u16_at-kinds-requires : goal.u16_at-kinds-requires
 u16_at-kinds-requires c =
@@ -90,8 +81,8 @@ returns-then-bad-count c =
     rw (bad-is (goal.at.returns-then-bad-count c).After-first_bad-bad)
     (sym
     (form_node _ (length_is (goal.at.returns-then-bad-count c).Else-not-length_good) (contents-is (goal.at.returns-then-bad-count c).Else-not-contents_good)
-    (settings-are (goal.at.returns-then-bad-count c).After-settings_good ∙ not-false _ c.if-not-settings_good.false)
-    (bad-below (goal.at.returns-then-bad-count c).Then-bad-count)))
+    (settings-are (goal.at.returns-then-bad-count c).After-settings_good ∙ c.if-not-settings_good.false)
+    (rw (← bad-is (goal.at.returns-then-bad-count c).After-first_bad-bad, ← c.count_of-count.ensures) c.if-bad-count.true)))
 
 pub overflow_add-settings-2 : goal.overflow_add-settings-2
 overflow_add-settings-2 c = omega (arith, c.settings_at-settings.ensures.1)
@@ -106,7 +97,7 @@ overflow_add-settings-3 c =
 
 pub names_form-requires : goal.names_form-requires
 names_form-requires c =
-    let kinds = settings_say _ _ _ (settings-are (goal.at.names_form-requires c).After-settings_good ∙ not-false _ c.if-not-settings_good.false) in (
+    let kinds = settings_say _ _ _ (settings-are (goal.at.names_form-requires c).After-settings_good ∙ c.if-not-settings_good.false) in (
       omega (arith, length_least _ (length_is (goal.at.names_form-requires c).Else-not-length_good)),
       omega (arith, (size_is (goal.at.names_form-requires c).Else-not-contents_good).within, c.settings_at-settings.ensures.0, c.count_of-count.ensures),
       rw (c.u16_at-kinds.ensures.0, c.settings_at-settings.ensures.0) kinds.1,
@@ -118,5 +109,5 @@ returns c =
     ∙ rw (c.u16_at-kinds.ensures.0, c.settings_at-settings.ensures.0, c.count_of-count.ensures)
     (sym
     (form_names _ (length_is (goal.at.returns c).Else-not-length_good) (contents-is (goal.at.returns c).Else-not-contents_good)
-    (settings-are (goal.at.returns c).After-settings_good ∙ not-false _ c.if-not-settings_good.false)
-    (none_bad (goal.at.returns c).Else-bad-count)))
+    (settings-are (goal.at.returns c).After-settings_good ∙ c.if-not-settings_good.false)
+    (rw (← bad-is (goal.at.returns c).After-first_bad-bad, ← c.count_of-count.ensures) c.if-bad-count.false)))

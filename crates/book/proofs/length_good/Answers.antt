@@ -5,8 +5,9 @@ use native.Mathlib.Omega.{arith}
 use Rattle.book.specs.Form.{named}
 use Rattle.book.proofs.Laws.{too_short, settings_plain, count_plain}
 use Rattle.book.proofs.length_good.Goals as goal
+use Rattle.book.proofs.length_good.Goals.{Else-has_names}
 
-plain : (c : goal.Else-has_names) → named c.args.bytes.now ≡ false
+plain : (c : Else-has_names) → named c.args.bytes.now ≡ false
 plain c = sym c.has_names.ensures ∙ c.if-has_names.false
 
 pub returns-then-size-lt24 : goal.returns-then-size-lt24

@@ -6,8 +6,9 @@ use borrow.Author.Tests.{not-true, not-false}
 use Rattle.book.specs.Form.{named}
 use Rattle.book.proofs.Laws.{bad_within}
 use Rattle.book.proofs.names_form.Goals as goal
+use Rattle.book.proofs.names_form.Goals.{Then-has_names}
 
-names : (c : goal.Then-has_names) → named c.args.bytes.now ≡ true
+names : (c : Then-has_names) → named c.args.bytes.now ≡ true
 names c = sym c.has_names.ensures ∙ c.if-has_names.true
 
 pub overflow_cast-result : goal.overflow_cast-result

@@ -25,4 +25,4 @@ pub returns-in-6 : goal.returns-in-6
 returns-in-6 c = rw c.in-6.is
 
 pub returns-in_default : goal.returns-in_default
-returns-in_default c = sym (no_type c.args.number c.in_default.rest)
+returns-in_default c = sym (no_type c.args.number c.in_default.in_default-own.rest)

@@ -1,4 +1,3 @@
-use Prim.Native.Nat.{◌-◌}
 use native.Mathlib.Omega.{arith}
 use Rattle.forms.proofs.Contents.{contents_within}
 use Rattle.forms.proofs.Entries.{compared_first, compared_next, compared_all, section_within, entry_within}

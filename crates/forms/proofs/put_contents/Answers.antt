@@ -1,4 +1,3 @@
-use Prim.Native.Nat.{◌-◌}
 use native.Mathlib.Omega.{arith}
 use Rattle.forms.proofs.Contents.{contents_within}
 use Rattle.forms.proofs.Entries.{entered_first, entered_next, entered_all, section_within, entry_within}
@@ -17,7 +16,7 @@ put_entry-requires c =
     let below = c.loop-i-test.true in
     let fits = entry_within c.loop-i.invariant.reached below in
     let small = section_within c.loop-i.invariant.reached below in (
-      omega (arith, fits, c.requires, c.loop-i.invariant.long, c.bytes-1),
+      omega (arith, fits, c.requires, c.loop-i.invariant.long),
       omega (arith, fits, c.requires, c.loop-i.invariant.reached.place),
       omega (arith, small, c.requires),
       omega (arith, small, c.requires),

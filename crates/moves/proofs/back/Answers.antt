@@ -7,11 +7,12 @@ use Rattle.book.specs.Form.{named}
 use Rattle.moves.specs.Moves.{house_good, back_of}
 use Rattle.moves.proofs.Answers.{own_done_by, form_refused, house_refused, forms_good, names_kept, names_same}
 use Rattle.moves.proofs.back.Goals as goal
+use Rattle.moves.proofs.back.Goals.{Else-not-found, Then-not-found}
 
-abbrev house-bad : (c : goal.Then-not-found) → house_good c.args.house.now ≡ false
+abbrev house-bad : (c : Then-not-found) → house_good c.args.house.now ≡ false
 house-bad c = sym c.find_bad-found.ensures.0 ∙ not-true _ c.if-not-found.true
 
-abbrev house_good_lem : (c : goal.Else-not-found) → house_good c.args.house.now ≡ true
+abbrev house_good_lem : (c : Else-not-found) → house_good c.args.house.now ≡ true
 house_good_lem c = sym c.find_bad-found.ensures.0 ∙ not-false _ c.if-not-found.false
 
 pub returns-then-form-ne-DONE : goal.returns-then-form-ne-DONE
@@ -36,7 +37,7 @@ unfolding back_of
 returns-then-not-same_names c =
     hands_as
     (forms_good c.named_form-form.ensures _ _ _ c.if-form-ne-DONE.false (house_good_lem (goal.at.returns-then-not-same_names c).Else-not-found)
-    ∙ names_kept _ _ (sym c.same_names.ensures ∙ not-true _ c.if-not-same_names.true))
+    ∙ names_kept _ _ (sym c.same_names.ensures ∙ c.if-not-same_names.true))
     c.refuse-then-not-same_names.ensures
 
 pub hand_plain-requires : goal.hand_plain-requires
@@ -48,5 +49,5 @@ unfolding back_of
 returns c =
     hands_as
     (forms_good c.named_form-form.ensures _ _ _ c.if-form-ne-DONE.false (house_good_lem (goal.at.returns c).Else-not-found)
-    ∙ names_same _ _ (sym c.same_names.ensures ∙ not-false _ c.if-not-same_names.false))
+    ∙ names_same _ _ (sym c.same_names.ensures ∙ c.if-not-same_names.false))
     c.hand_plain.ensures

@@ -7,11 +7,12 @@ use Rattle.book.specs.Form.{named}
 use Rattle.moves.specs.Moves.{house_good, forward_of}
 use Rattle.moves.proofs.Answers.{own_done_by, form_refused, house_refused, forms_good}
 use Rattle.moves.proofs.forward.Goals as goal
+use Rattle.moves.proofs.forward.Goals.{Else-not-found, Then-not-found}
 
-abbrev house-bad : (c : goal.Then-not-found) → house_good c.args.house.now ≡ false
+abbrev house-bad : (c : Then-not-found) → house_good c.args.house.now ≡ false
 house-bad c = sym c.find_bad-found.ensures.0 ∙ not-true _ c.if-not-found.true
 
-abbrev house_good_lem : (c : goal.Else-not-found) → house_good c.args.house.now ≡ true
+abbrev house_good_lem : (c : Else-not-found) → house_good c.args.house.now ≡ true
 house_good_lem c = sym c.find_bad-found.ensures.0 ∙ not-false _ c.if-not-found.false
 
 pub returns-then-form-ne-DONE : goal.returns-then-form-ne-DONE

@@ -11,23 +11,24 @@ use Rattle.book.specs.Form.{book_of}
 use Rattle.moves.specs.Moves.{named_of}
 use Rattle.moves.proofs.Laid.{few_nodes_lem, end_small, end_within, named_long}
 use Rattle.moves.proofs.hand_named.Goals as goal
+use Rattle.moves.proofs.hand_named.Goals.{After-count_in}
 
-abbrev bytes : goal.After-count_in → List ℕ
+abbrev bytes : After-count_in → List ℕ
 bytes c = named_of c.args.book.now c.args.house.now
 
-end_is : (c : goal.After-name_at-end)
+end_is : (c : After-count_in)
     → c.name_at-end.result ≡ name_at c.args.house.now 0 (book_of c.args.book.now).kinds
 end_is c = c.name_at-end.ensures ∙ ap (name_at c.args.house.now 0) c.kinds_in.ensures
 
 -- the size is small, and is that of the bytes
-small : (c : goal.After-count_in) → (c.count_in.result ≤ 512) × (c.name_at-end.result ≤ 1088)
+small : (c : After-count_in) → (c.count_in.result ≤ 512) × (c.name_at-end.result ≤ 1088)
 small c =
     let before = c.requires in (
       omega (arith, c.count_in.ensures, few_nodes_lem _ before.0),
-      omega (arith, end_is (c AS After-name_at-end), end_small _ before.0 _ before.1),
+      omega (arith, end_is c, end_small _ before.0 _ before.1),
     )
 
-size_is : (c : goal.After-count_in)
+size_is : (c : After-count_in)
     → c.contents_size.result + 4 + 6 * c.count_in.result + c.name_at-end.result ≡ length (bytes c)
 size_is c =
     let before = c.requires in
@@ -35,7 +36,7 @@ size_is c =
       arith,
       c.contents_size.ensures,
       c.count_in.ensures,
-      end_is (c AS After-name_at-end),
+      end_is c,
       named_long c.args.book.now before.0 c.args.house.now before.1,
     )
 
@@ -63,7 +64,7 @@ write_named-requires c =
     record {
       form = before.0;
       house_good_lem = before.1;
-      end_is = end_is (goal.at.write_named-requires c).After-name_at-end;
+      end_is = end_is (goal.at.write_named-requires c).After-count_in;
       fits = omega (arith, size_is (goal.at.write_named-requires c).After-count_in, c.if-out-size.false, clear_long (length c.args.out.now) clear);
       clear = clear_is (length c.args.out.now) clear;
     }

@@ -9,15 +9,16 @@ use Rattle.written.proofs.Handing.{clear_long, clear_is, no_room, room_enough_le
 use Rattle.moves.specs.Moves.{plain_of}
 use Rattle.moves.proofs.Laid.{few_nodes_lem, plain_long}
 use Rattle.moves.proofs.hand_plain.Goals as goal
+use Rattle.moves.proofs.hand_plain.Goals.{After-count_in}
 
-abbrev bytes : goal.After-count_in → List ℕ
+abbrev bytes : After-count_in → List ℕ
 bytes c = plain_of c.args.book.now
 
 -- the size is small, and is that of the bytes
-small : (c : goal.After-count_in) → c.count_in.result ≤ 512
+small : (c : After-count_in) → c.count_in.result ≤ 512
 small c = omega (arith, c.count_in.ensures, few_nodes_lem _ c.requires)
 
-size_is : (c : goal.After-count_in) → c.contents_size.result + 4 + 6 * c.count_in.result ≡ length (bytes c)
+size_is : (c : After-count_in) → c.contents_size.result + 4 + 6 * c.count_in.result ≡ length (bytes c)
 size_is c =
     omega (arith, c.contents_size.ensures, c.count_in.ensures, plain_long c.args.book.now c.requires)
 

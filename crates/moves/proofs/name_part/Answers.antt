@@ -8,20 +8,18 @@ use Rattle.moves.specs.Look.{source_of}
 use Rattle.moves.specs.declared.Source.{Source}
 use Rattle.moves.proofs.Parts.{book_form, in_book, in_house, part_none, part-book, part_house}
 use Rattle.moves.proofs.name_part.Goals as goal
+use Rattle.moves.proofs.name_part.Goals.{After-name_at-at, In-Book, In-House, In-Nowhere}
 
-abbrev source : goal.After-source_of → Source
-source c = source_of c.args.book.now c.args.house.now c.args.kind
-
-abbrev told_none : (c : goal.In-Nowhere) → source (c AS After-source_of) ≡ Source.Nowhere
+abbrev told_none : (c : In-Nowhere) → source_of c.args.book.now c.args.house.now c.args.kind ≡ Source.Nowhere
 told_none c = sym c.source_of.ensures ∙ c.in-Nowhere.is
 
-abbrev told-book : (c : goal.In-Book) → source (c AS After-source_of) ≡ Source.Book
+abbrev told-book : (c : In-Book) → source_of c.args.book.now c.args.house.now c.args.kind ≡ Source.Book
 told-book c = sym c.source_of.ensures ∙ c.in-Book.is
 
-abbrev told-house : (c : goal.In-House) → source (c AS After-source_of) ≡ Source.House
+abbrev told-house : (c : In-House) → source_of c.args.book.now c.args.house.now c.args.kind ≡ Source.House
 told-house c = sym c.source_of.ensures ∙ c.in-House.is
 
-at-book : (c : goal.After-name_at-at)
+at-book : (c : After-name_at-at)
     → c.name_at-at.result
     ≡ name_at c.args.book.now (names_at c.args.book.now) c.args.kind
 at-book c =

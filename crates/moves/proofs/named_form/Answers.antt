@@ -1,13 +1,13 @@
 -- `moves::named_form` meets its contract, test by test.
 use mathlib.Core.Path.{◌≡◌, sym, ap, ◌∙◌}
-use borrow.Author.Tests.{not-true, not-false}
 use Rattle.book.specs.Form.{named, form_of}
 use Rattle.book.specs.declared.Judged.{Judged}
 use Rattle.moves.proofs.Answers.{long_enough, own_form_lem, short_form, other_form}
 use Rattle.moves.proofs.named_form.Goals as goal
+use Rattle.moves.proofs.named_form.Goals.{After-form-form}
 
 -- the number of the form
-abbrev number : (c : goal.After-form-form) → c.form-form.result.number ≡ (form_of c.args.book.now).number
+abbrev number : (c : After-form-form) → c.form-form.result.number ≡ (form_of c.args.book.now).number
 number c = ap (λ (j : Judged). j.number) c.form-form.ensures
 
 pub returns-then-form-eq-LENGTH : goal.returns-then-form-eq-LENGTH
@@ -20,10 +20,10 @@ has_names-requires c =
 
 pub returns-then-not-has_names : goal.returns-then-not-has_names
 returns-then-not-has_names c =
-    other_form _ _ (sym c.has_names.ensures ∙ not-true _ c.if-not-has_names.true)
+    other_form _ _ (sym c.has_names.ensures ∙ c.if-not-has_names.true)
     (λ is. c.if-form-eq-LENGTH.false (number (goal.at.returns-then-not-has_names c).After-form-form ∙ is))
 
 pub returns : goal.returns
 returns c =
     c.form-form.ensures
-    ∙ own_form_lem _ _ (sym c.has_names.ensures ∙ not-false _ c.if-not-has_names.false)
+    ∙ own_form_lem _ _ (sym c.has_names.ensures ∙ c.if-not-has_names.false)

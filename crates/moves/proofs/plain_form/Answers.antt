@@ -5,9 +5,10 @@ use Rattle.book.specs.Form.{named, form_of}
 use Rattle.book.specs.declared.Judged.{Judged}
 use Rattle.moves.proofs.Answers.{long_enough, own_form_lem, short_form, other_form}
 use Rattle.moves.proofs.plain_form.Goals as goal
+use Rattle.moves.proofs.plain_form.Goals.{After-form-form}
 
 -- the number of the form
-abbrev number : (c : goal.After-form-form) → c.form-form.result.number ≡ (form_of c.args.book.now).number
+abbrev number : (c : After-form-form) → c.form-form.result.number ≡ (form_of c.args.book.now).number
 number c = ap (λ (j : Judged). j.number) c.form-form.ensures
 
 pub returns-then-form-eq-LENGTH : goal.returns-then-form-eq-LENGTH

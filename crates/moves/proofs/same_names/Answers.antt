@@ -9,12 +9,13 @@ use Rattle.book.proofs.Decoded.{formed}
 use Rattle.moves.proofs.Laid.{end_within}
 use Rattle.moves.proofs.SameNames.{other_sizes, by_bytes}
 use Rattle.moves.proofs.same_names.Goals as goal
+use Rattle.moves.proofs.same_names.Goals.{After-kinds_in, After-name_at-size}
 
-abbrev end_is : (c : goal.After-name_at-size)
+abbrev end_is : (c : After-name_at-size)
     → c.name_at-size.result ≡ name_at c.args.house.now 0 (book_of c.args.book.now).kinds
 end_is c = c.name_at-size.ensures ∙ ap (name_at c.args.house.now 0) c.kinds_in.ensures
 
-within : (c : goal.After-kinds_in)
+within : (c : After-kinds_in)
     → (names_at c.args.book.now ≤ length c.args.book.now)
     × (name_at c.args.house.now 0 (book_of c.args.book.now).kinds ≤ length c.args.house.now)
 within c = (

@@ -9,17 +9,18 @@ use Rattle.book.specs.declared.Judged.{Judged}
 use Rattle.book.proofs.Decoded.{formed, nodes_begin}
 use Rattle.moves.proofs.Parts.{source_refused, source_none, source_book, source_bad, source_house}
 use Rattle.moves.proofs.source_of.Goals as goal
+use Rattle.moves.proofs.source_of.Goals.{After-form-form, Else-form-ne-DONE, Else-has_names, Else-kinds_in-kind}
 
-abbrev number : (c : goal.After-form-form) → c.form-form.result.number ≡ (form_of c.args.book.now).number
+abbrev number : (c : After-form-form) → c.form-form.result.number ≡ (form_of c.args.book.now).number
 number c = ap (λ (j : Judged). j.number) c.form-form.ensures
 
-abbrev done : (c : goal.Else-form-ne-DONE) → (form_of c.args.book.now).number ≡ DONE
-done c = sym (number (c AS After-form-form)) ∙ c.if-form-ne-DONE.false
+abbrev done : (c : Else-form-ne-DONE) → (form_of c.args.book.now).number ≡ DONE
+done c = sym (ap (λ (j : Judged). j.number) c.form-form.ensures) ∙ c.if-form-ne-DONE.false
 
-below : (c : goal.Else-kinds_in-kind) → c.args.kind < (book_of c.args.book.now).kinds
+below : (c : Else-kinds_in-kind) → c.args.kind < (book_of c.args.book.now).kinds
 below c = rw (← c.kinds_in.ensures) c.if-kinds_in-kind.false
 
-plain : (c : goal.Else-has_names) → named c.args.book.now ≡ false
+plain : (c : Else-has_names) → named c.args.book.now ≡ false
 plain c = sym c.has_names.ensures ∙ c.if-has_names.false
 
 pub returns-then-form-ne-DONE : goal.returns-then-form-ne-DONE

@@ -8,16 +8,17 @@ use Rattle.words.proofs.Bytes.{below_each}
 use Rattle.book.specs.Form.{book_of}
 use Rattle.moves.proofs.Laid.{few_nodes_lem, body_within, end_small, end_within, named_long, named_laid}
 use Rattle.moves.proofs.write_named.Goals as goal
+use Rattle.moves.proofs.write_named.Goals.{After-count_in-nodes}
 
 -- there is room for it all, and it is not much
-room : (c : goal.After-count_in-nodes)
+room : (c : After-count_in-nodes)
     → 24 + 6 * (book_of c.args.book.now).count + c.args.end ≤ length c.args.out.now
 room c =
     let before = c.requires in
     let long = named_long c.args.book.now before.form c.args.house.now before.house_good_lem in
     omega (arith, before.fits, before.end_is, long)
 
-small : (c : goal.After-count_in-nodes) → ((book_of c.args.book.now).count ≤ 512) × (c.args.end ≤ 1088)
+small : (c : After-count_in-nodes) → ((book_of c.args.book.now).count ≤ 512) × (c.args.end ≤ 1088)
 small c =
     let before = c.requires in (
       few_nodes_lem c.args.book.now before.form,

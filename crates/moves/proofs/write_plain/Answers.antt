@@ -8,9 +8,10 @@ use Rattle.words.proofs.Bytes.{below_each}
 use Rattle.book.specs.Form.{book_of}
 use Rattle.moves.proofs.Laid.{few_nodes_lem, body_within, plain_long, plain_laid}
 use Rattle.moves.proofs.write_plain.Goals as goal
+use Rattle.moves.proofs.write_plain.Goals.{After-count_in-nodes}
 
 -- there is room for it all, and it is not much
-room : (c : goal.After-count_in-nodes)
+room : (c : After-count_in-nodes)
     → (18 + 6 * (book_of c.args.book.now).count ≤ length c.args.out.now)
     × ((book_of c.args.book.now).count ≤ 512)
 room c =

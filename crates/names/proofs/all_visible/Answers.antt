@@ -1,5 +1,4 @@
 use mathlib.Core.Path.{sym}
-use Prim.Native.Nat.{◌-◌}
 use Rattle.words.proofs.FirstBad.{searched_none, searched_more, searched_within, searched_every}
 use Rattle.names.proofs.Places.{too_low, too_high, is_visible}
 use Rattle.names.proofs.all_visible.Goals as goal

@@ -1,9 +1,6 @@
 use mathlib.Core.Path.{sym, ◌∙◌}
-use Prim.Native.Nat.{◌-◌}
 use native.Mathlib.Omega.{arith}
-use borrow.Author.Tests.{not-true, not-false}
 use Rattle.words.proofs.FirstBad.{searched_none, searched_more, searched_bad, searched_all}
-use Rattle.names.specs.Names.{name_good}
 use Rattle.names.proofs.Places.{name_first, at_next, good_whole, bad_found, none_found}
 use Rattle.names.proofs.find_bad.Goals as goal
 
@@ -17,7 +14,7 @@ pub returns-then-not-name_good : goal.returns-then-not-name_good
 returns-then-not-name_good c =
     let turn = c.loop-n in
     let bad = searched_bad _ turn.invariant.2 c.loop-n-test.true
-    (sym c.name_good.ensures ∙ not-true _ c.if-not-name_good.true) in
+    (sym c.name_good.ensures ∙ c.if-not-name_good.true) in
     (sym (bad_found _ _ turn.invariant.0 c.loop-n-test.true bad), bad)
 
 pub past_name-at-requires : goal.past_name-at-requires
@@ -25,13 +22,13 @@ past_name-at-requires c =
     omega (
       arith,
       (good_whole c.args.bytes.now c.args.base _ c.loop-n.invariant.0
-          (sym c.name_good.ensures ∙ not-false _ c.if-not-name_good.false)).within,
+          (sym c.name_good.ensures ∙ c.if-not-name_good.false)).within,
     )
 
 pub loop-n-preserved : goal.loop-n-preserved
 loop-n-preserved c =
     let turn = c.loop-n in
-    let good = sym c.name_good.ensures ∙ not-false _ c.if-not-name_good.false in (
+    let good = sym c.name_good.ensures ∙ c.if-not-name_good.false in (
       at_next _ _ _ turn.invariant.0 c.past_name-at.ensures,
       omega (arith, c.past_name-at.ensures, (good_whole c.args.bytes.now c.args.base _ turn.invariant.0 good).within),
       searched_more _ turn.invariant.2 c.loop-n-test.true good,

@@ -1,19 +1,18 @@
 -- `names::name_good` meets its contract: a name is good if it is whole and new.
 use mathlib.Core.Path.{sym, ◌∙◌}
-use borrow.Author.Tests.{not-true, not-false}
 use Rattle.names.proofs.Places.{whole, bad_name, good_if_new}
 use Rattle.names.proofs.name_good.Goals as goal
 
 pub returns-then-not-name_whole : goal.returns-then-not-name_whole
 returns-then-not-name_whole c =
-    sym (bad_name _ _ _ c.requires.0 (sym c.name_whole.ensures ∙ not-true _ c.if-not-name_whole.true))
+    sym (bad_name _ _ _ c.requires.0 (sym c.name_whole.ensures ∙ c.if-not-name_whole.true))
 
 pub name_new-requires : goal.name_new-requires
 name_new-requires c =
-    (c.requires.0, (whole _ _ (sym c.name_whole.ensures ∙ not-false _ c.if-not-name_whole.false)).within)
+    (c.requires.0, (whole _ _ (sym c.name_whole.ensures ∙ c.if-not-name_whole.false)).within)
 
 pub returns : goal.returns
 returns c =
     c.name_new.ensures
     ∙ good_if_new _ _ _ c.requires.0
-    (sym c.name_whole.ensures ∙ not-false _ c.if-not-name_whole.false)
+    (sym c.name_whole.ensures ∙ c.if-not-name_whole.false)

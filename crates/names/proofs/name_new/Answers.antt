@@ -1,6 +1,5 @@
 use mathlib.Core.Path.{sym}
 use mathlib.Core.Bool.{true, false}
-use Prim.Native.Nat.{◌-◌}
 use native.Mathlib.Omega.{arith}
 use Rattle.words.proofs.FirstBad.{searched_none, searched_more, searched_within, searched_every}
 use Rattle.names.specs.Names.{name_new}

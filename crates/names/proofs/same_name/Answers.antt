@@ -15,7 +15,7 @@ returns-then-wide-size c =
 pub returns : goal.returns
 returns c =
     let args = c.args in
-    let size_is = c.wide.ensures.0 in
+    let size_is = c.wide-size.ensures.0 in
     let alike = sym c.if-wide-size.false ∙ c.wide.ensures.0 in
     c.same_bytes.ensures
     ∙ (λ i. same (part_at args.bytes.now (args.one + 1) (size_is i)) (part_at args.bytes.now (args.other + 1) (alike i)))
