@@ -110,6 +110,7 @@ module _ {node : ℕ → Node} where
 
   -- a kind in FIRST of a nullable node should not follow it
   pub nullable_first_snf : {top : Node} {k : ℕ} → Nullable node top → First node top k → Snf node top k
+  nullable_first_snf {k = k} n_empty x3 = elim x3 [ ]
   nullable_first_snf (n_left a) (f_left d) = s_left (nullable_first_snf a d)
   nullable_first_snf (n_left a) (f_right d) = s_first_right a d
   nullable_first_snf (n_right a) (f_left d) = s_first_left d a

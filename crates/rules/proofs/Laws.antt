@@ -35,32 +35,32 @@ module _ {node : ℕ → Node} {kinds count : ℕ} (proper : (n : ℕ) → n < c
   right : {n : ℕ} {at : Node} → Inside n at → Inside (right_from n at) (node (right_from n at))
   right known = inside (right_below known.below known.is)
 
-  first_kind : {n k : ℕ} {at : Node} → Inside n at → First node at k → k < kinds
-  first_kind known f_token = token_kind known.is
-  first_kind known (f_left d) = first_kind (left known) d
-  first_kind known (f_right d) = first_kind (right known) d
-  first_kind known (f_hold d e) = first_kind (left known) d
-  first_kind known (f_skip d e) = first_kind (right known) e
-  first_kind known (f_tagged d) = first_kind (left known) d
-  first_kind known (f_ref d) = first_kind (left known) d
+  first_kind : {k : ℕ} {at : Node} → First node at k → {n : ℕ} → Inside n at → k < kinds
+  first_kind f_token known = token_kind known.is
+  first_kind (f_left d) known = first_kind d (left known)
+  first_kind (f_right d) known = first_kind d (right known)
+  first_kind (f_hold d e) known = first_kind d (left known)
+  first_kind (f_skip d e) known = first_kind e (right known)
+  first_kind (f_tagged d) known = first_kind d (left known)
+  first_kind (f_ref d) known = first_kind d (left known)
 
-  snf_kind : {n k : ℕ} {at : Node} → Inside n at → Snf node at k → k < kinds
-  snf_kind known (s_left d) = snf_kind (left known) d
-  snf_kind known (s_right d) = snf_kind (right known) d
-  snf_kind known (s_first_left d e) = first_kind (left known) d
-  snf_kind known (s_first_right d e) = first_kind (right known) e
-  snf_kind known (s_then_left d e) = snf_kind (left known) d
-  snf_kind known (s_then_right d e) = snf_kind (right known) e
-  snf_kind known (s_tagged d) = snf_kind (left known) d
-  snf_kind known (s_ref d) = snf_kind (left known) d
+  snf_kind : {k : ℕ} {at : Node} → Snf node at k → {n : ℕ} → Inside n at → k < kinds
+  snf_kind (s_left d) known = snf_kind d (left known)
+  snf_kind (s_right d) known = snf_kind d (right known)
+  snf_kind (s_first_left d e) known = first_kind d (left known)
+  snf_kind (s_first_right d e) known = first_kind e (right known)
+  snf_kind (s_then_left d e) known = snf_kind d (left known)
+  snf_kind (s_then_right d e) known = snf_kind e (right known)
+  snf_kind (s_tagged d) known = snf_kind d (left known)
+  snf_kind (s_ref d) known = snf_kind d (left known)
 
   -- a kind of FIRST is below the number of kinds
   pub first_below : {n k : ℕ} → n < count → First node (node n) k → k < kinds
-  first_below below d = first_kind (inside below) d
+  first_below below d = first_kind d (inside below)
 
   -- a kind of SNF is below the number of kinds
   pub snf_below : {n k : ℕ} → n < count → Snf node (node n) k → k < kinds
-  snf_below below d = snf_kind (inside below) d
+  snf_below below d = snf_kind d (inside below)
 
 -- ---- a table that has the facts
 

@@ -6,7 +6,6 @@ use mathlib.Core.List.{List}
 use mathlib.Core.Logic.{◌↔◌, ⊎_elim}
 use native.Mathlib.Omega.{arith}
 use native.Mathlib.Decide.{ℕ_discrete}
-use borrow.Author.Tests.{not-false}
 use lib.ListN.{length}
 use Rattle.kinds.specs.Kinds.{Has, only_kind}
 use Rattle.kinds.proofs.Laws.{has?_is, has_single}
@@ -138,12 +137,12 @@ none_spread {node} {marks} unmarked = record {
 -- ---- all nodes
 
 -- one node more is marked
-pub marked_more : (marks : List ℕ) (n : ℕ) {marked : Bool} → AllMarked marks n → marked ≡ marked? marks n → not marked ≡ false
+pub marked_more : (marks : List ℕ) (n : ℕ) {marked : Bool} → AllMarked marks n → marked ≡ marked? marks n → marked ≡ true
     → AllMarked marks (n + 1)
 marked_more marks n before is told m below = go (ℕ_discrete m n)
   where
     go : Dec (m ≡ n) → IsMarked marks m
-    go (yes e) = rw e ((marked_is marks n).0 (sym is ∙ not-false _ told))
+    go (yes e) = rw e ((marked_is marks n).0 (sym is ∙ told))
     go (no f) = before m (omega arith)
 
 -- where all nodes are marked, and all marks stand for reachable nodes, the marks have the reachable nodes

@@ -7,24 +7,24 @@ use Rattle.lengths.specs.Falling.{smaller, cut, length_of}
 use Rattle.lengths.proofs.length_of.Goals as goal
 
 pub length_at-requires : goal.length_at-requires
-length_at-requires c = omega (arith, c.requires.0, ap (left_from 0) c.in-Either.is)
+length_at-requires c = omega (arith, c.requires.node_in_bounds, ap (left_from 0) c.in-Either.is)
 
 pub length_at-requires-in-Either : goal.length_at-requires-in-Either
 length_at-requires-in-Either c =
-    omega (arith, c.requires.1, ap (right_from 0) c.in-Either.is)
+    omega (arith, c.requires.node_in_bounds_2, ap (right_from 0) c.in-Either.is)
 
 pub length_at-requires-in-Then : goal.length_at-requires-in-Then
-length_at-requires-in-Then c = omega (arith, c.requires.0, ap (left_from 0) c.in-Then.is)
+length_at-requires-in-Then c = omega (arith, c.requires.node_in_bounds, ap (left_from 0) c.in-Then.is)
 
 pub length_at-requires-in-Then-2 : goal.length_at-requires-in-Then-2
 length_at-requires-in-Then-2 c =
-    omega (arith, c.requires.1, ap (right_from 0) c.in-Then.is)
+    omega (arith, c.requires.node_in_bounds_2, ap (right_from 0) c.in-Then.is)
 
 pub length_at-requires-in-Tagged : goal.length_at-requires-in-Tagged
-length_at-requires-in-Tagged c = omega (arith, c.requires.0, ap (left_from 0) c.in-Tagged.is)
+length_at-requires-in-Tagged c = omega (arith, c.requires.node_in_bounds, ap (left_from 0) c.in-Tagged.is)
 
 pub length_at-requires-in-Ref : goal.length_at-requires-in-Ref
-length_at-requires-in-Ref c = omega (arith, c.requires.0, ap (left_from 0) c.in-Ref.is)
+length_at-requires-in-Ref c = omega (arith, c.requires.node_in_bounds, ap (left_from 0) c.in-Ref.is)
 
 pub returns-in-Fail : goal.returns-in-Fail
 unfolding length_of

@@ -9,24 +9,36 @@ use Rattle.rules.proofs.least_facts.Goals as goal
 pub visit_all-requires : goal.visit_all-requires
 visit_all-requires c =
     let pre = c.requires in
-    (pre.0, (pre.1.long, blank_sound pre.1))
+    record {
+      good_nodes = pre.good_nodes;
+      count_in_bounds = pre.blank.long;
+      sound = blank_sound pre.blank;
+    }
 
 pub loop-table-init : goal.loop-table-init
 loop-table-init c =
-    let blank = c.requires.1 in
+    let blank = c.requires.blank in
     (settling_none (grown_sound c.visit_all.ensures.grown (blank_sound blank)), c.visit_all.ensures.closed)
 
 pub visit_refs-requires : goal.visit_refs-requires
 visit_refs-requires c =
     let pre = c.requires in
     let settling = c.loop-table.invariant.0 in
-    (pre.0, (omega (arith, pre.1.long, c.visit_all.ensures.grown.long, settling.long), settling.sound))
+    record {
+      good_nodes = pre.good_nodes;
+      count_in_bounds = omega (arith, pre.blank.long, c.visit_all.ensures.grown.long, settling.long);
+      sound = settling.sound;
+    }
 
 pub visit_all-requires-in-loop-table : goal.visit_all-requires-in-loop-table
 visit_all-requires-in-loop-table c =
     let pre = c.requires in
     let settling = settling_more c.loop-table.invariant.0 c.visit_refs.ensures.grown in
-    (pre.0, (omega (arith, pre.1.long, c.visit_all.ensures.grown.long, settling.long), settling.sound))
+    record {
+      good_nodes = pre.good_nodes;
+      count_in_bounds = omega (arith, pre.blank.long, c.visit_all.ensures.grown.long, settling.long);
+      sound = settling.sound;
+    }
 
 pub loop-table-smaller : goal.loop-table-smaller
 loop-table-smaller c =
@@ -49,4 +61,4 @@ pub returns : goal.returns
 returns c =
     let pre = c.requires in
     let (settling, closed) = c.loop-table.invariant in
-    refs_facts pre.0.proper settling.sound closed c.visit_refs.ensures c.loop-table-test.false
+    refs_facts pre.good_nodes.proper settling.sound closed c.visit_refs.ensures c.loop-table-test.false

@@ -5,27 +5,27 @@ use Rattle.rules.specs.Step.{either_facts, then_facts, ruled_of, left_from, righ
 use Rattle.rules.proofs.ruled.Goals as goal
 
 pub single-requires : goal.single-requires
-single-requires c = omega (arith, c.requires.0, ap kind_of c.in-Token.is)
+single-requires c = omega (arith, c.requires.node_bound, ap kind_of c.in-Token.is)
 
 pub facts_at-requires : goal.facts_at-requires
-facts_at-requires c = omega (arith, c.requires.1.0, ap (left_from 0) c.in-Either.is)
+facts_at-requires c = omega (arith, c.requires.node_in_bounds, ap (left_from 0) c.in-Either.is)
 
 pub facts_at-requires-in-Either : goal.facts_at-requires-in-Either
 facts_at-requires-in-Either c =
-    omega (arith, c.requires.1.1, ap (right_from 0) c.in-Either.is)
+    omega (arith, c.requires.node_in_bounds_2, ap (right_from 0) c.in-Either.is)
 
 pub facts_at-requires-in-Then : goal.facts_at-requires-in-Then
-facts_at-requires-in-Then c = omega (arith, c.requires.1.0, ap (left_from 0) c.in-Then.is)
+facts_at-requires-in-Then c = omega (arith, c.requires.node_in_bounds, ap (left_from 0) c.in-Then.is)
 
 pub facts_at-requires-in-Then-2 : goal.facts_at-requires-in-Then-2
 facts_at-requires-in-Then-2 c =
-    omega (arith, c.requires.1.1, ap (right_from 0) c.in-Then.is)
+    omega (arith, c.requires.node_in_bounds_2, ap (right_from 0) c.in-Then.is)
 
 pub facts_at-requires-in-Tagged : goal.facts_at-requires-in-Tagged
-facts_at-requires-in-Tagged c = omega (arith, c.requires.1.0, ap (left_from 0) c.in-Tagged.is)
+facts_at-requires-in-Tagged c = omega (arith, c.requires.node_in_bounds, ap (left_from 0) c.in-Tagged.is)
 
 pub facts_at-requires-in-Ref : goal.facts_at-requires-in-Ref
-facts_at-requires-in-Ref c = omega (arith, c.requires.1.0, ap (left_from 0) c.in-Ref.is)
+facts_at-requires-in-Ref c = omega (arith, c.requires.node_in_bounds, ap (left_from 0) c.in-Ref.is)
 
 pub returns-in-Fail : goal.returns-in-Fail
 unfolding ruled_of

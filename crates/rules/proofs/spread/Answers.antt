@@ -7,7 +7,12 @@ use Rattle.rules.proofs.spread.Goals as goal
 pub mark_children-requires : goal.mark_children-requires
 mark_children-requires c =
     let pre = c.requires in
-    (pre.0, (pre.1.0, (pre.1.1, (marked_is _ _).0 (sym c.is_marked.ensures ∙ c.if-is_marked.true))))
+    record {
+      good_nodes = pre.good_nodes;
+      n_lt_count = pre.n_lt_count;
+      marks_size_in_bounds = pre.marks_size_in_bounds;
+      marked = (marked_is _ _).0 (sym c.is_marked.ensures ∙ c.if-is_marked.true);
+    }
 
 pub returns-then-is_marked : goal.returns-then-is_marked
 returns-then-is_marked c = c.mark_children.ensures

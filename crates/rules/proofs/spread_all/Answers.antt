@@ -9,17 +9,16 @@ loop-i-init c = (refl, λ start sound. turning_none _)
 
 pub spread-changed-requires : goal.spread-changed-requires
 spread-changed-requires c =
-    let pre = c.requires in (
-      pre.0,
-      (
-        c.visited.ensures.1,
-        omega (arith, c.loop-i.invariant.0, pre.1),
-      ),
-    )
+    let pre = c.requires in
+    record {
+      good_nodes = pre.good_nodes;
+      n_lt_count = c.visited.ensures.1;
+      marks_size_in_bounds = omega (arith, c.loop-i.invariant.0, pre.marks_size_in_bounds);
+    }
 
 pub loop-i-preserved : goal.loop-i-preserved
 loop-i-preserved c = (
-  c.spread-changed.auto.1.1.1.1.0 ∙ c.loop-i.invariant.0,
+  c.spread-changed.auto.marks ∙ c.loop-i.invariant.0,
   λ start sound.
       let turning = c.loop-i.invariant.1 start sound in
       turning_more turning c.visited.ensures.0 (c.spread-changed.ensures.from start (grown_sound turning.grown sound)),

@@ -11,11 +11,16 @@ pub visit-changed-requires : goal.visit-changed-requires
 visit-changed-requires c =
     let climbed = c.loop-i.invariant in
     let pre = c.requires in
-    (pre.0, (c.loop-i-test.true, (omega (arith, climbed.grown.long, pre.1.0), grown_sound climbed.grown pre.1.1)))
+    record {
+      good_nodes = pre.good_nodes;
+      n_lt_count = c.loop-i-test.true;
+      count_in_bounds = omega (arith, climbed.grown.long, pre.count_in_bounds);
+      sound = grown_sound climbed.grown pre.sound;
+    }
 
 pub loop-i-preserved : goal.loop-i-preserved
 loop-i-preserved c =
-    climbed_more c.requires.0.proper c.loop-i-test.true c.loop-i.invariant c.visit-changed.ensures
+    climbed_more c.requires.good_nodes.proper c.loop-i-test.true c.loop-i.invariant c.visit-changed.ensures
 
 pub shape_of-table : goal.shape_of-table
 shape_of-table c = c.loop-i.invariant.grown.long

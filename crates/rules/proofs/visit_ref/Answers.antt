@@ -8,12 +8,12 @@ use Rattle.rules.proofs.visit_ref.Goals as goal
 pub facts_at-facts-requires : goal.facts_at-facts-requires
 facts_at-facts-requires c =
     let pre = c.requires in
-    omega (arith, c.left_from.ensures, left-inside pre.0 pre.1.0 c.node_at-node.ensures, pre.1.1.0)
+    omega (arith, c.left_from.ensures, left-inside pre.good_nodes pre.n_lt_count c.node_at-node.ensures, pre.count_in_bounds)
 
 pub returns-then-is_ref : goal.returns-then-is_ref
 returns-then-is_ref c =
     let pre = c.requires in
-    ref_visited pre.1.1.1 (node_is pre.0 pre.1.0 c.node_at-node.ensures)
+    ref_visited pre.sound (node_is pre.good_nodes pre.n_lt_count c.node_at-node.ensures)
     (sym c.is_ref.ensures ∙ c.if-is_ref.true)
     c.left_from.ensures
     c.facts_at-facts.ensures
@@ -23,4 +23,4 @@ pub returns-else-is_ref : goal.returns-else-is_ref
 returns-else-is_ref c =
     let pre = c.requires in
     let other = sym c.is_ref.ensures ∙ c.if-is_ref.false in
-    other_visited (rw (node_is pre.0 pre.1.0 c.node_at-node.ensures) at other)
+    other_visited (rw (node_is pre.good_nodes pre.n_lt_count c.node_at-node.ensures) at other)

@@ -3,7 +3,7 @@ use native.Mathlib.Omega.{arith}
 use Rattle.rules.proofs.visited.Goals as goal
 
 pub returns-then-downward : goal.returns-then-downward
-returns-then-downward c = (simp c.if-downward.true, omega (arith, (goal.at.returns-then-downward c).Then-downward))
+returns-then-downward c = (simp c.if-downward.true, omega (arith, c))
 
 pub returns-else-downward : goal.returns-else-downward
-returns-else-downward c = (simp c.if-downward.false, omega (arith, (goal.at.returns-else-downward c).Else-downward))
+returns-else-downward c = (simp c.if-downward.false, omega (arith, c))

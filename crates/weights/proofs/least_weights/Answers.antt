@@ -6,13 +6,17 @@ use Rattle.weights.proofs.Lowering.{fresh_sound, changed_less, turned_weights}
 use Rattle.weights.proofs.least_weights.Goals as goal
 
 pub loop-downward-init : goal.loop-downward-init
-loop-downward-init c = settling_none (fresh_sound c.requires.1)
+loop-downward-init c = settling_none (fresh_sound c.requires.fresh)
 
 pub visit_all-requires : goal.visit_all-requires
 visit_all-requires c =
     let settling = c.loop-downward.invariant in
     let pre = c.requires in
-    (pre.0, (omega (arith, pre.1.long, settling.long), settling.sound))
+    record {
+      good_nodes = pre.good_nodes;
+      count_in_bounds = omega (arith, pre.fresh.long, settling.long);
+      sound = settling.sound;
+    }
 
 pub loop-downward-smaller : goal.loop-downward-smaller
 loop-downward-smaller c = changed_less c.visit_all.ensures.grown c.loop-downward-test.true
@@ -30,5 +34,5 @@ returns c =
     let pre = c.requires in
     record {
       lightest_is =
-          turned_weights (good_kinded pre.0) (nodes_beyond _ _ _) pre.1 c.loop-downward.invariant c.visit_all.ensures c.loop-downward-test.false;
+          turned_weights (good_kinded pre.good_nodes) (nodes_beyond _ _ _) pre.fresh c.loop-downward.invariant c.visit_all.ensures c.loop-downward-test.false;
     }

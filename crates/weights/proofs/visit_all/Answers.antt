@@ -9,13 +9,13 @@ loop-i-init c = turning_none _
 pub visit-changed-requires : goal.visit-changed-requires
 visit-changed-requires c =
     let turning = c.loop-i.invariant in
-    let pre = c.requires in (
-      pre.0,
-      (
-        c.visited.ensures.1,
-        (omega (arith, turning.grown.long, pre.1.0), grown_sound turning.grown pre.1.1),
-      ),
-    )
+    let pre = c.requires in
+    record {
+      good_nodes = pre.good_nodes;
+      n_lt_count = c.visited.ensures.1;
+      count_in_bounds = omega (arith, turning.grown.long, pre.count_in_bounds);
+      sound = grown_sound turning.grown pre.sound;
+    }
 
 pub loop-i-preserved : goal.loop-i-preserved
 loop-i-preserved c =

@@ -7,27 +7,27 @@ use Rattle.weights.specs.Falling.{cut, joined, weight_by}
 use Rattle.weights.proofs.weight_by.Goals as goal
 
 pub overflow_add-result : goal.overflow_add-result
-overflow_add-result c = omega (arith, c.requires.1.1, ap kind_of c.in-Token.is)
+overflow_add-result c = omega (arith, c.requires.node_bound, ap kind_of c.in-Token.is)
 
 pub weight_at-requires : goal.weight_at-requires
-weight_at-requires c = omega (arith, c.requires.0, ap (left_from 0) c.in-Either.is)
+weight_at-requires c = omega (arith, c.requires.node_in_bounds, ap (left_from 0) c.in-Either.is)
 
 pub weight_at-requires-in-Either : goal.weight_at-requires-in-Either
 weight_at-requires-in-Either c =
-    omega (arith, c.requires.1.0, ap (right_from 0) c.in-Either.is)
+    omega (arith, c.requires.node_in_bounds_2, ap (right_from 0) c.in-Either.is)
 
 pub weight_at-requires-in-Then : goal.weight_at-requires-in-Then
-weight_at-requires-in-Then c = omega (arith, c.requires.0, ap (left_from 0) c.in-Then.is)
+weight_at-requires-in-Then c = omega (arith, c.requires.node_in_bounds, ap (left_from 0) c.in-Then.is)
 
 pub weight_at-requires-in-Then-2 : goal.weight_at-requires-in-Then-2
 weight_at-requires-in-Then-2 c =
-    omega (arith, c.requires.1.0, ap (right_from 0) c.in-Then.is)
+    omega (arith, c.requires.node_in_bounds_2, ap (right_from 0) c.in-Then.is)
 
 pub weight_at-requires-in-Tagged : goal.weight_at-requires-in-Tagged
-weight_at-requires-in-Tagged c = omega (arith, c.requires.0, ap (left_from 0) c.in-Tagged.is)
+weight_at-requires-in-Tagged c = omega (arith, c.requires.node_in_bounds, ap (left_from 0) c.in-Tagged.is)
 
 pub weight_at-requires-in-Ref : goal.weight_at-requires-in-Ref
-weight_at-requires-in-Ref c = omega (arith, c.requires.0, ap (left_from 0) c.in-Ref.is)
+weight_at-requires-in-Ref c = omega (arith, c.requires.node_in_bounds, ap (left_from 0) c.in-Ref.is)
 
 pub returns-in-Fail : goal.returns-in-Fail
 unfolding weight_by
