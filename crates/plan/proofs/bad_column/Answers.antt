@@ -7,6 +7,7 @@ use Rattle.words.proofs.FirstBad.{Searched, searched_none, searched_more, search
 use Rattle.plan.specs.Rows.{column_good, bad_column}
 use Rattle.plan.proofs.Columns.{kind_column, last_column, at_last}
 use Rattle.plan.proofs.bad_column.Goals as goal
+use Rattle.plan.proofs.bad_column.Goals.{After-loop-column}
 
 pub loop-column-init : goal.loop-column-init
 loop-column-init c = (searched_none _ _, omega arith)
@@ -14,23 +15,23 @@ loop-column-init c = (searched_none _ _, omega arith)
 pub returns-then-not-cell-one : goal.returns-then-not-cell-one
 unfolding bad_column
 returns-then-not-cell-one c = searched_bad _ c.loop-column.invariant.0 (omega arith)
-    (kind_column _ _ _ _ _ c.loop-column-test.true refl (not-true _ c.if-not-cell-one.true))
+    (kind_column _ _ _ _ _ c.loop-column-test.true refl c.if-not-cell-one.true)
 
 pub loop-column-preserved : goal.loop-column-preserved
 loop-column-preserved c = (
   searched_more _ c.loop-column.invariant.0 (omega arith)
-      (kind_column _ _ _ _ _ c.loop-column-test.true refl (not-false _ c.if-not-cell-one.false)),
+      (kind_column _ _ _ _ _ c.loop-column-test.true refl c.if-not-cell-one.false),
   omega arith,
 )
 
 -- the test of the row's columns
-abbrev columns : goal.After-loop-column → ℕ → Bool
+abbrev columns : After-loop-column → ℕ → Bool
 columns c =
     let args = c.args in
     column_good args.plan.now args.at args.kinds args.one args.other
 
 -- past the kinds the search stands at the last cell
-last : (c : goal.After-loop-column) → Searched (columns c) (c.args.kinds + 1) c.args.kinds
+last : (c : After-loop-column) → Searched (columns c) (c.args.kinds + 1) c.args.kinds
 last c = at_last (Searched _ _) c.loop-column.invariant.0 c.loop-column.invariant.1 c.loop-column-test.false
 
 pub returns-then-plan-at-le1 : goal.returns-then-plan-at-le1

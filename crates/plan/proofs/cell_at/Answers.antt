@@ -5,9 +5,10 @@ use lib.ListN.{length}
 use Rattle.plan.specs.Form.{cell_at, row_at}
 use Rattle.plan.proofs.Runnable.{few_nodes_lem, few_kinds, cell_inside}
 use Rattle.plan.proofs.cell_at.Goals as goal
+use Rattle.plan.proofs.cell_at.Goals.{Start}
 
 -- the cell's place is within the plan, a small one
-inside : (c : goal.Start)
+inside : (c : Start)
     → (row_at c.args.count c.args.kinds c.args.node + c.args.column < length c.args.plan.now)
     × (length c.args.plan.now < 65536)
 inside c = cell_inside c.requires.0 c.requires.1 c.requires.2

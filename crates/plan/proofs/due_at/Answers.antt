@@ -5,9 +5,10 @@ use lib.ListN.{length}
 use Rattle.plan.specs.Form.{plan_from, due_at}
 use Rattle.plan.proofs.Runnable.{few_nodes_lem, few_kinds, due_inside}
 use Rattle.plan.proofs.due_at.Goals as goal
+use Rattle.plan.proofs.due_at.Goals.{Start}
 
 -- the number's place is within the plan, a small one
-inside : (c : goal.Start)
+inside : (c : Start)
     → (due_at c.args.count c.args.kinds c.args.node + 1 < length c.args.plan.now)
     × (length c.args.plan.now < 65536)
 inside c = due_inside c.requires.0 c.requires.1

@@ -6,15 +6,16 @@ use borrow.Author.Tests.{not-true, not-false, ltb-false}
 use Rattle.plan.specs.Form.{plan_size}
 use Rattle.plan.proofs.Rows.{rows_none, CellsOf, cells_of, rows_more, rows_bad, rows_all, row_inside}
 use Rattle.plan.proofs.judge_cells.Goals as goal
+use Rattle.plan.proofs.judge_cells.Goals.{In-loop-n, After-row_good, After-bad_column-column}
 
 pub loop-n-init : goal.loop-n-init
 loop-n-init c = (refl, rows_none _ _ _)
 
 abbrev Turn : Type 0
-Turn = goal.In-loop-n
+Turn = In-loop-n
 
 abbrev Tested : Type 0
-Tested = goal.After-row_good
+Tested = After-row_good
 
 -- the row stands within the plan
 row_in : (t : Turn) → t.loop-n.at + (t.args.kinds + 1) ≤ plan_size t.args.count t.args.kinds
@@ -28,10 +29,10 @@ cells v =
     cells_of _ _ _ v.node_at-node.ensures v.one_cell-one.ensures v.other_cell-other.ensures
 
 -- the column that is found is one of the row's
-column-small : (c : goal.After-bad_column-column) → c.bad_column-column.result ≤ c.args.kinds
+column-small : (c : After-bad_column-column) → c.bad_column-column.result ≤ c.args.kinds
 column-small c =
     rw c.bad_column-column.ensures
-    (ltb-false _ _ (sym c.row_good.ensures ∙ not-true _ c.if-not-row_good.true))
+    (ltb-false _ _ (sym c.row_good.ensures ∙ c.if-not-row_good.true))
 
 pub row_good-requires : goal.row_good-requires
 row_good-requires c = omega (arith, row_in (goal.at.row_good-requires c).In-loop-n)
@@ -51,7 +52,7 @@ overflow_cast-result c = omega (arith, column-small (goal.at.overflow_cast-resul
 pub returns-then-not-row_good : goal.returns-then-not-row_good
 returns-then-not-row_good c =
     rows_bad _ _ _ c.loop-n.invariant.1 c.loop-n-test.true (cells (goal.at.returns-then-not-row_good c).After-row_good) c.row_good.ensures
-    (not-true _ c.if-not-row_good.true) c.bad_column-column.ensures
+    c.if-not-row_good.true c.bad_column-column.ensures
 
 pub overflow_add-at : goal.overflow_add-at
 overflow_add-at c = omega (arith, row_in (goal.at.overflow_add-at c).In-loop-n)
@@ -63,7 +64,7 @@ pub loop-n-preserved : goal.loop-n-preserved
 loop-n-preserved c = (
   search rules,
   rows_more _ _ _ c.loop-n.invariant.1 c.loop-n-test.true (cells (goal.at.loop-n-preserved c).After-row_good) c.row_good.ensures
-      (not-false _ c.if-not-row_good.false),
+      c.if-not-row_good.false,
 )
 
 pub returns : goal.returns

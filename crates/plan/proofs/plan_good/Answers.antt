@@ -7,17 +7,18 @@ use lib.ListN.{length}
 use Rattle.plan.specs.Form.{size_good, plan_good}
 use Rattle.plan.proofs.Laws.{Sized, sized}
 use Rattle.plan.proofs.plan_good.Goals as goal
+use Rattle.plan.proofs.plan_good.Goals.{Else-not-size_good}
 
 -- the length is good past the first test
-size-test : (c : goal.Else-not-size_good) → size_good (length c.args.plan.now) c.args.count c.args.kinds ≡ true
-size-test c = sym c.size_good.ensures ∙ not-false _ c.if-not-size_good.false
+size-test : (c : Else-not-size_good) → size_good (length c.args.plan.now) c.args.count c.args.kinds ≡ true
+size-test c = sym c.size_good.ensures ∙ c.if-not-size_good.false
 
-size_is : (c : goal.Else-not-size_good) → Sized (length c.args.plan.now) c.args.count c.args.kinds
+size_is : (c : Else-not-size_good) → Sized (length c.args.plan.now) c.args.count c.args.kinds
 size_is c = sized _ _ _ (size-test c)
 
 pub returns-then-not-size_good : goal.returns-then-not-size_good
 unfolding plan_good
-returns-then-not-size_good c = rw (sym c.size_good.ensures ∙ not-true _ c.if-not-size_good.true)
+returns-then-not-size_good c = rw (sym c.size_good.ensures ∙ c.if-not-size_good.true)
 
 pub plan_contents_good-requires : goal.plan_contents_good-requires
 plan_contents_good-requires c = omega (arith, size_is (goal.at.plan_contents_good-requires c).Else-not-size_good)

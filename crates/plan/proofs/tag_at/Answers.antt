@@ -6,9 +6,10 @@ use lib.ListN.{length}
 use Rattle.plan.specs.Form.{plan_nodes_at}
 use Rattle.plan.proofs.Runnable.{node_inside, tag_none, tag_right}
 use Rattle.plan.proofs.tag_at.Goals as goal
+use Rattle.plan.proofs.tag_at.Goals.{Start}
 
 -- the node stands in the plan
-inside : (c : goal.Start) → (plan_nodes_at + 6 * c.args.node + 6 ≤ length c.args.plan.now) × (c.args.node < 512)
+inside : (c : Start) → (plan_nodes_at + 6 * c.args.node + 6 ≤ length c.args.plan.now) × (c.args.node < 512)
 inside c = node_inside _ c.requires.0 c.requires.1
 
 pub overflow_mul-node : goal.overflow_mul-node
