@@ -6,6 +6,7 @@ use Rattle.plan.proofs.Runnable.{same-plan}
 use Rattle.drums.specs.Drums.{closed, close_of}
 use Rattle.drums.proofs.Calls.{call_inside, call_runs, past-kept, drum_kept, drum_on}
 use Rattle.drums.proofs.close.Goals as goal
+use Rattle.drums.proofs.close.Goals.{After-plan_kinds}
 
 pub returns-then-call-ne-DONE : goal.returns-then-call-ne-DONE
 unfolding close_of
@@ -26,7 +27,7 @@ pub plan_kinds-requires : goal.plan_kinds-requires
 plan_kinds-requires c =
     call_inside _ _ c.judge_call-call.ensures c.if-call-ne-DONE.false
 
-runs : (k : goal.After-plan_kinds)
+runs : (k : After-plan_kinds)
     → Runnable k.args.plan.now k.plan_count-nodes.result k.plan_kinds.result
 runs k =
     call_runs _ k.judge_call-call.ensures k.if-call-ne-DONE.false k.plan_count-nodes.ensures.0 k.plan_kinds.ensures.0

@@ -9,10 +9,11 @@ use Rattle.plan.specs.Form.{plan_from}
 use Rattle.reader.specs.Machine.{node_in, stack}
 use Rattle.drums.specs.Drums.{most_due, due_of}
 use Rattle.drums.proofs.due_sum.Goals as goal
+use Rattle.drums.proofs.due_sum.Goals.{In-loop-at}
 
 -- a turn, in which a part is passed, and the function's entry
 abbrev Turn : Type 0
-Turn = goal.In-loop-at
+Turn = In-loop-at
 
 inside : (t : Turn) → t.loop-at.at < length t.args.slots.now
 inside t = omega (arith, t.loop-at-test.true, t.requires.1.few)

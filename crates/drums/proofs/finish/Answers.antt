@@ -15,4 +15,4 @@ pub returns : goal.returns
 unfolding plan_from
 returns c =
     let pre = c.requires in
-    c.stop.ensures ∙ close_is _ _ pre.1 _ (outcome c.close.result c.close.new.1.1.1.1.1.1.1.0) c.close.ensures
+    c.stop.ensures ∙ close_is _ _ pre.1 _ (outcome c.close.result c.close.new.tree) c.close.ensures

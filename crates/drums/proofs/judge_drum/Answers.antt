@@ -1,7 +1,7 @@
 -- `drums::judge_drum` meets its contract, by each of its tests.
 use mathlib.Core.Path.{sym}
 use native.Mathlib.Omega.{arith}
-use borrow.Author.Tests.{not-true, not-false}
+use borrow.Author.Rules.{rules}
 use Rattle.drums.proofs.Tests.{drum_idle, drum_far, drum_astray, drum_done, near_counts, sound_by}
 use Rattle.drums.proofs.judge_drum.Goals as goal
 
@@ -14,22 +14,18 @@ returns-then-d c =
 
 pub nodes_held-requires : goal.nodes_held-requires
 nodes_held-requires c =
-    omega (
-      arith,
-      (near_counts c.args.d c.if-d.false).0,
-      slice-aggregate-nodes-held (goal.at.nodes_held-requires c).After-slots-2-1,
-    )
+    omega (arith, (near_counts c.args.d c.if-d.false).0)
 
 pub returns-then-not-nodes_held : goal.returns-then-not-nodes_held
 returns-then-not-nodes_held c = (
   drum_astray _ _ c.is_idle.ensures c.if-is_idle.false c.if-d.false c.nodes_held.ensures.0
-      (not-true _ c.if-not-nodes_held.true),
+      c.if-not-nodes_held.true,
   λ e. absurd (omega (arith, e)),
 )
 
 pub returns : goal.returns
 returns c =
-    let hold = not-false _ c.if-not-nodes_held.false in (
+    let hold = c.if-not-nodes_held.false in (
       drum_done _ _ c.is_idle.ensures c.if-is_idle.false c.if-d.false c.nodes_held.ensures.0 hold,
-      λ e. sound_by _ _ c.if-d.false (c.nodes_held.ensures.1 hold) (sym (slice-aggregate-nodes-held (goal.at.returns c).After-slots-2-1)),
+      λ e. sound_by _ _ c.if-d.false (c.nodes_held.ensures.1 hold) (search rules),
     )

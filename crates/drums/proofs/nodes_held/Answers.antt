@@ -8,10 +8,11 @@ use Rattle.words.proofs.Tests.{never}
 use Rattle.drums.specs.Drums.{nodes_held}
 use Rattle.drums.proofs.Tests.{nodes_hold}
 use Rattle.drums.proofs.nodes_held.Goals as goal
+use Rattle.drums.proofs.nodes_held.Goals.{In-loop-at}
 
 -- a turn, and its slot
 abbrev Turn : Type 0
-Turn = goal.In-loop-at
+Turn = In-loop-at
 
 inside : (t : Turn) → t.loop-at.at < length t.args.slots.now
 inside t = omega (arith, t.loop-at-test.true, t.requires)

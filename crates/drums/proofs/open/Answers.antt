@@ -5,6 +5,7 @@ use Rattle.plan.proofs.Runnable.{same-plan}
 use Rattle.drums.specs.Drums.{opened, open_of}
 use Rattle.drums.proofs.Calls.{call_inside, call_runs, past-kept, past_on}
 use Rattle.drums.proofs.open.Goals as goal
+use Rattle.drums.proofs.open.Goals.{After-plan_kinds}
 
 pub returns-then-call-ne-DONE : goal.returns-then-call-ne-DONE
 unfolding open_of
@@ -17,7 +18,7 @@ pub plan_kinds-requires : goal.plan_kinds-requires
 plan_kinds-requires c = call_inside _ _ c.judge_call-call.ensures c.if-call-ne-DONE.false
 
 -- the plan is good, with its nodes and kinds
-runs : (c : goal.After-plan_kinds)
+runs : (c : After-plan_kinds)
     → Runnable c.args.plan.now c.plan_count.result c.plan_kinds.result
 runs c =
     call_runs _ c.judge_call-call.ensures c.if-call-ne-DONE.false c.plan_count.ensures.0

@@ -14,16 +14,17 @@ use Rattle.drums.specs.Drums.{drum_slots, stepped, idle_drum}
 use Rattle.drums.proofs.Parts.{sound_ready}
 use Rattle.drums.proofs.Steps.{step_long, step-taken, step-refused, step_safe}
 use Rattle.drums.proofs.step.Goals as goal
+use Rattle.drums.proofs.step.Goals.{After-take_event-spot}
 
 -- the event met, past the test of its number, and the function's entry
 abbrev Met : Type 0
-Met = goal.After-take_event-spot
+Met = After-take_event-spot
 
 -- how the machine stands then
 abbrev out : Met → After
 out v =
     let e = v.take_event-spot in
-    after e.result e.last.1.1.1.1.1.1.0 e.last.1.1.1.1.1.1.1.0
+    after e.result e.new.held e.new.tree
 
 pub returns-then-d-eq-MOST_EVENTS : goal.returns-then-d-eq-MOST_EVENTS
 returns-then-d-eq-MOST_EVENTS c =

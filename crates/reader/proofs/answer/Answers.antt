@@ -8,17 +8,18 @@ use Rattle.book.specs.declared.Judged.{Judged}
 use Rattle.plan.specs.Form.{plan_judged}
 use Rattle.reader.proofs.Settles.{read_form, read_long, read_slotless, read_runs}
 use Rattle.reader.proofs.answer.Goals as goal
+use Rattle.reader.proofs.answer.Goals.{After-judge-form, Else-form-ne-DONE, Else-held-eq0}
 
 -- the form's answer is the plan's
-form-is : (v : goal.After-judge-form) → v.judge-form.result.number ≡ (plan_judged v.args.plan.now).number
+form-is : (v : After-judge-form) → v.judge-form.result.number ≡ (plan_judged v.args.plan.now).number
 form-is v = ap (λ (j : Judged). j.number) v.judge-form.ensures
 
 -- where the form is good
-good : (c : goal.Else-form-ne-DONE) → (plan_judged c.args.plan.now).number ≡ DONE
-good c = sym (form-is (c AS After-judge-form)) ∙ c.if-form-ne-DONE.false
+good : (c : Else-form-ne-DONE) → (plan_judged c.args.plan.now).number ≡ DONE
+good c = sym (ap (λ (j : Judged). j.number) c.judge-form.ensures) ∙ c.if-form-ne-DONE.false
 
 -- where there is a slot
-some_slot : (c : goal.Else-held-eq0) → 0 < length c.args.held.now
+some_slot : (c : Else-held-eq0) → 0 < length c.args.held.now
 some_slot c = omega (arith, c.if-held-eq0.false)
 
 pub returns-then-form-ne-DONE : goal.returns-then-form-ne-DONE

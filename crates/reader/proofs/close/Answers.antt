@@ -6,14 +6,15 @@ use Rattle.reader.specs.Machine.{After, after}
 use Rattle.reader.proofs.Bounds.{finish_few}
 use Rattle.reader.proofs.RunUnderWay.{close_refused, close_done}
 use Rattle.reader.proofs.close.Goals as goal
+use Rattle.reader.proofs.close.Goals.{After-finish-spot}
 
 -- the parts taken off, and the function's entry
 abbrev Off : Type 0
-Off = goal.After-finish-spot
+Off = After-finish-spot
 
 -- how the machine stands then
 abbrev stood : Off → After
-stood v = after v.finish-spot.result v.args.held.now v.finish-spot.last.1.1.1.1.1.1.0
+stood v = after v.finish-spot.result v.args.held.now v.finish-spot.new.tree
 
 pub returns-then-spot-ne-DONE : goal.returns-then-spot-ne-DONE
 returns-then-spot-ne-DONE c =

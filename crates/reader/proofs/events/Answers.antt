@@ -4,7 +4,7 @@ use mathlib.Core.Path.{◌≡◌, refl, sym, ◌∙◌}
 use mathlib.Core.Bool.{true, false}
 use Prim.Native.Nat.{◌<◌}
 use native.Mathlib.Omega.{arith}
-use borrow.Author.Tests.{not-true, not-false}
+use borrow.Author.Rules.{rules}
 use lib.ListN.{length, set, take}
 use lib.Seq.{length-take-le}
 use Rattle.book.specs.Form.{DONE}
@@ -17,17 +17,18 @@ use Rattle.reader.specs.Reads.{outcome}
 use Rattle.reader.proofs.Simulation.{bounded}
 use Rattle.reader.proofs.Stops.{Passing, stop_within, done_intact, run-closed, run_silent, run-refused, again_intact, run_again}
 use Rattle.reader.proofs.events.Goals as goal
+use Rattle.reader.proofs.events.Goals.{After-pass_events-again, After-pass_events-stop, Else-not-tells_kinds}
 
 -- the events passed, and the function's entry
 abbrev Met : Type 0
-Met = goal.After-pass_events-stop
+Met = After-pass_events-stop
 
 abbrev plan-of : Met → Plan
 plan-of v = plan_from v.args.plan.now v.args.nodes v.args.kinds
 
 -- where they stop
 abbrev met : Met → Passed
-met v = stopped_at v.pass_events-stop.result v.pass_events-stop.last.1.1.1.1.0 v.pass_events-stop.last.1.1.1.1.1.0
+met v = stopped_at v.pass_events-stop.result v.pass_events-stop.new.held v.pass_events-stop.new.tree
 
 passing : (v : Met) → Passing (plan-of v) v.args.run.now v.args.held.now v.args.tree.now (met v)
 unfolding plan_from
@@ -40,10 +41,10 @@ at_small : (v : Met) → v.pass_events-stop.result.at < 65536
 at_small v = omega (arith, stop_within (passing v), v.requires.1)
 
 slots-are : (v : Met) → length (met v).held ≡ length v.args.held.now
-slots-are v = v.pass_events-stop.auto.1.1.1.1.0
+slots-are v = v.pass_events-stop.auto.held
 
 room-is : (v : Met) → length (met v).tree ≡ length v.args.tree.now
-room-is v = v.pass_events-stop.auto.1.1.1.1.1.0
+room-is v = v.pass_events-stop.auto.tree
 
 -- all events were taken
 done-ready : (v : Met) → v.pass_events-stop.result.number ≡ DONE
@@ -54,14 +55,14 @@ done-ready v is =
 
 pub close-requires : goal.close-requires
 close-requires c =
-    (done-ready (goal.at.close-requires c).After-pass_events-arg-2-1 c.if-stop-eq-DONE.true, at_small (goal.at.close-requires c).After-pass_events-arg-2-1)
+    (done-ready (goal.at.close-requires c).After-pass_events-stop c.if-stop-eq-DONE.true, at_small (goal.at.close-requires c).After-pass_events-stop)
 
 pub returns-then-stop-eq-DONE : goal.returns-then-stop-eq-DONE
 unfolding plan_from
 returns-then-stop-eq-DONE c =
-    run-closed (passing (goal.at.returns-then-stop-eq-DONE c).After-pass_events-arg-2-1) c.if-stop-eq-DONE.true (rw (slots-are (goal.at.returns-then-stop-eq-DONE c).After-pass_events-arg-2-1) at (done-ready (goal.at.returns-then-stop-eq-DONE c).After-pass_events-arg-2-1 c.if-stop-eq-DONE.true).parts)
-    (outcome c.close.result c.close.new.1.1.1.1.1.1.1.0) c.close.ensures
-    (c.close.auto.1.1.1.1.1.1.1.0 ∙ room-is (goal.at.returns-then-stop-eq-DONE c).After-pass_events-arg-2-1)
+    run-closed (passing (goal.at.returns-then-stop-eq-DONE c).After-pass_events-stop) c.if-stop-eq-DONE.true (rw (slots-are (goal.at.returns-then-stop-eq-DONE c).After-pass_events-stop) at (done-ready (goal.at.returns-then-stop-eq-DONE c).After-pass_events-stop c.if-stop-eq-DONE.true).parts)
+    (outcome c.close.result c.close.new.tree) c.close.ensures
+    (c.close.auto.tree ∙ room-is (goal.at.returns-then-stop-eq-DONE c).After-pass_events-stop)
 
 pub overflow_cast-result : goal.overflow_cast-result
 overflow_cast-result c = omega (arith, at_small (goal.at.overflow_cast-result c).After-pass_events-stop)
@@ -69,13 +70,13 @@ overflow_cast-result c = omega (arith, at_small (goal.at.overflow_cast-result c)
 pub returns-then-not-tells_kinds : goal.returns-then-not-tells_kinds
 returns-then-not-tells_kinds c =
     run_silent (passing (goal.at.returns-then-not-tells_kinds c).After-pass_events-stop) c.if-stop-eq-DONE.false (met (goal.at.returns-then-not-tells_kinds c).After-pass_events-stop).tree (room-is (goal.at.returns-then-not-tells_kinds c).After-pass_events-stop)
-    (sym c.tells_kinds.ensures ∙ not-true _ c.if-not-tells_kinds.true) refl
+    (sym c.tells_kinds.ensures ∙ c.if-not-tells_kinds.true) refl
 
-not_done : (c : goal.Else-not-tells_kinds) → c.pass_events-stop.result.number ≡ DONE → ⊥
+not_done : (c : Else-not-tells_kinds) → c.pass_events-stop.result.number ≡ DONE → ⊥
 not_done c = c.if-stop-eq-DONE.false
 
-told : (c : goal.Else-not-tells_kinds) → tells c.pass_events-stop.result.number ≡ true
-told c = sym c.tells_kinds.ensures ∙ not-false _ c.if-not-tells_kinds.false
+told : (c : Else-not-tells_kinds) → tells c.pass_events-stop.result.number ≡ true
+told c = sym c.tells_kinds.ensures ∙ c.if-not-tells_kinds.false
 
 -- the slots are intact
 pub refuse-requires : goal.refuse-requires
@@ -85,7 +86,7 @@ refuse-requires c =
 
 pub returns-then-stop : goal.returns-then-stop
 returns-then-stop c =
-    run-refused (passing (goal.at.returns-then-stop c).After-pass_events-stop) (not_done (goal.at.returns-then-stop c).After-tells_kinds) (met (goal.at.returns-then-stop c).After-pass_events-stop).tree (room-is (goal.at.returns-then-stop c).After-pass_events-stop) (told (goal.at.returns-then-stop c).After-tells_kinds) c.if-stop.true
+    run-refused (passing (goal.at.returns-then-stop c).After-pass_events-stop) (not_done (goal.at.returns-then-stop c).Else-not-tells_kinds) (met (goal.at.returns-then-stop c).After-pass_events-stop).tree (room-is (goal.at.returns-then-stop c).After-pass_events-stop) (told (goal.at.returns-then-stop c).Else-not-tells_kinds) c.if-stop.true
     c.refuse.ensures
 
 -- the events before are read again
@@ -101,16 +102,16 @@ pass_events-again-requires c =
 
 -- where they stop, and the refusal before
 abbrev Again : Type 0
-Again = goal.After-pass_events-again
+Again = After-pass_events-again
 
 abbrev again : Again → Passed
-again w = stopped_at w.pass_events-again.result w.pass_events-again.last.1.1.1.1.0 w.pass_events-again.last.1.1.1.1.1.0
+again w = stopped_at w.pass_events-again.result w.pass_events-again.new.held w.pass_events-again.new.tree
 
 again-stops : (w : Again)
     → let a = w.args in
     again w
-    ≡ pass_of (plan-of (w AS After-pass_events-stop)) 0 (take w.pass_events-stop.result.at a.run.now) 1 0
-    (set (met (w AS After-pass_events-stop)).held 0 (slot_of (plan-of (w AS After-pass_events-stop)).start 0)) (take 0 (met (w AS After-pass_events-stop)).tree)
+    ≡ pass_of (plan_from a.plan.now a.nodes a.kinds) 0 (take w.pass_events-stop.result.at a.run.now) 1 0
+    (set w.pass_events-stop.new.held 0 (slot_of (plan_from a.plan.now a.nodes a.kinds).start 0)) (take 0 w.pass_events-stop.new.tree)
 unfolding plan_from
 again-stops w = w.pass_events-again.ensures.0
 
@@ -118,10 +119,10 @@ pub refuse-requires-2 : goal.refuse-requires-2
 refuse-requires-2 c =
     let ready =
     c.pass_events-again.ensures.1
-    (again_intact (passing (goal.at.refuse-requires-2 c).After-pass_events-stop) (not_done (goal.at.refuse-requires-2 c).Else-not-tells_kinds) (met (goal.at.refuse-requires-2 c).After-pass_events-stop).held (take 0 (met (goal.at.refuse-requires-2 c).After-pass_events-stop).tree) (slots-are (goal.at.refuse-requires-2 c).After-pass_events-stop) (again (goal.at.refuse-requires-2 c).After-pass_events-arg-4-1) (again-stops (goal.at.refuse-requires-2 c).After-pass_events-arg-4-1)) in
+    (again_intact (passing (goal.at.refuse-requires-2 c).After-pass_events-stop) (not_done (goal.at.refuse-requires-2 c).Else-not-tells_kinds) (met (goal.at.refuse-requires-2 c).After-pass_events-stop).held (take 0 (met (goal.at.refuse-requires-2 c).After-pass_events-stop).tree) (slots-are (goal.at.refuse-requires-2 c).After-pass_events-stop) (again (goal.at.refuse-requires-2 c).After-pass_events-again) (again-stops (goal.at.refuse-requires-2 c).After-pass_events-again)) in
     (ready.runs, ready.parts, at_small (goal.at.refuse-requires-2 c).After-pass_events-stop)
 
 pub returns : goal.returns
 returns c =
-    run_again (passing (goal.at.returns c).After-pass_events-stop) (not_done (goal.at.returns c).Else-not-tells_kinds) (met (goal.at.returns c).After-pass_events-stop).held (take 0 (met (goal.at.returns c).After-pass_events-stop).tree) (slots-are (goal.at.returns c).After-pass_events-stop) (again (goal.at.returns c).After-pass_events-arg-4-1) (again-stops (goal.at.returns c).After-pass_events-arg-4-1) _
-    (same-length-8 (goal.at.returns c).After-refuse-2) (told (goal.at.returns c).Else-not-tells_kinds) c.refuse-2.ensures
+    run_again (passing (goal.at.returns c).After-pass_events-stop) (not_done (goal.at.returns c).Else-not-tells_kinds) (met (goal.at.returns c).After-pass_events-stop).held (take 0 (met (goal.at.returns c).After-pass_events-stop).tree) (slots-are (goal.at.returns c).After-pass_events-stop) (again (goal.at.returns c).After-pass_events-again) (again-stops (goal.at.returns c).After-pass_events-again) _
+    (search rules) (told (goal.at.returns c).Else-not-tells_kinds) c.refuse-2.ensures

@@ -8,10 +8,11 @@ use Rattle.plan.specs.Form.{plan_from}
 use Rattle.reader.specs.Machine.{node_in}
 use Rattle.reader.proofs.Rows.{joined-all, joined_here, joined_on}
 use Rattle.reader.proofs.expected_by.Goals as goal
+use Rattle.reader.proofs.expected_by.Goals.{In-loop-parts}
 
 -- a turn, in which a part is passed, and the function's entry
 abbrev Turn : Type 0
-Turn = goal.In-loop-parts
+Turn = In-loop-parts
 
 -- the part's slot stands in the slots, and the part is a node
 last_inside : (t : Turn) → t.loop-parts.parts - 1 < length t.args.held.now

@@ -6,10 +6,11 @@ use Rattle.plan.specs.Form.{plan_from, Runnable}
 use Rattle.plan.proofs.Runnable.{few_nodes_lem}
 use Rattle.reader.proofs.PartsTakenOff.{last_at, last_below, last_inside, finish_none, finish_refuses, finish_passes}
 use Rattle.reader.proofs.finish.Goals as goal
+use Rattle.reader.proofs.finish.Goals.{In-loop-parts}
 
 -- a turn, in which a part is taken off, and the function's entry
 abbrev Turn : Type 0
-Turn = goal.In-loop-parts
+Turn = In-loop-parts
 
 runs : (t : Turn) → Runnable t.args.plan.now t.args.nodes t.args.kinds
 runs t = t.requires.runs

@@ -11,10 +11,11 @@ use Rattle.reader.proofs.Simulation.{bounded}
 use Rattle.reader.proofs.RunUnderWay.{run_ends, run-refused, run_intact, run_goes}
 use Rattle.reader.proofs.Stops.{started}
 use Rattle.reader.proofs.pass_events.Goals as goal
+use Rattle.reader.proofs.pass_events.Goals.{After-take_event-spot, At-loop-at}
 
 -- the loop's head, and the function's entry before it
 abbrev At : Type 0
-At = goal.At-loop-at
+At = At-loop-at
 
 -- the slots are as many as at the entry
 slots-are : (l : At) → length (set l.args.held.now 0 l.slot_of.result) ≡ length l.args.held.now
@@ -42,13 +43,13 @@ ready l =
 
 -- the event of a turn, its turn, and the loop's head before it
 abbrev Met : Type 0
-Met = goal.After-take_event-spot
+Met = After-take_event-spot
 
 -- how the event came out
 abbrev out : Met → After
 out v =
     let e = v.take_event-spot in
-    after e.result e.last.1.1.1.1.1.1.0 e.last.1.1.1.1.1.1.1.0
+    after e.result e.new.held e.new.tree
 
 steps : (v : Met)
     → let a = v.args in
@@ -82,10 +83,10 @@ pub take_event-spot-requires : goal.take_event-spot-requires
 take_event-spot-requires c = ready (goal.at.take_event-spot-requires c).At-loop-at
 
 pub shape_of-held-then-spot-ne-DONE : goal.shape_of-held-then-spot-ne-DONE
-shape_of-held-then-spot-ne-DONE c = c.take_event-spot.kept.1.1.1.1.1.1.0 ∙ c.loop-at.invariant.safe.long ∙ slots-are (goal.at.shape_of-held-then-spot-ne-DONE c).At-loop-at
+shape_of-held-then-spot-ne-DONE c = c.take_event-spot.auto.held ∙ c.loop-at.invariant.safe.long ∙ slots-are (goal.at.shape_of-held-then-spot-ne-DONE c).At-loop-at
 
 pub shape_of-tree-then-spot-ne-DONE : goal.shape_of-tree-then-spot-ne-DONE
-shape_of-tree-then-spot-ne-DONE c = c.take_event-spot.kept.1.1.1.1.1.1.1.0 ∙ c.loop-at.invariant.tree_long
+shape_of-tree-then-spot-ne-DONE c = c.take_event-spot.auto.tree ∙ c.loop-at.invariant.tree_long
 
 pub returns-then-spot-ne-DONE : goal.returns-then-spot-ne-DONE
 unfolding plan_from
@@ -109,7 +110,7 @@ unfolding plan_from
 loop-at-preserved c =
     let runs = c.requires.0 in
     run_goes _ _ _ _ _ c.loop-at.invariant c.loop-at-test.true (out (goal.at.loop-at-preserved c).After-take_event-spot) (steps (goal.at.loop-at-preserved c).After-take_event-spot) (bounded runs) (few_nodes_lem runs) c.if-spot-ne-DONE.false
-    c.take_event-spot.kept.1.1.1.1.1.1.1.0
+    c.take_event-spot.auto.tree
 
 -- the run is at its end
 pub shape_of-held : goal.shape_of-held

@@ -7,5 +7,5 @@ pub returns : goal.returns
 returns c =
     record {
       outcome_is = c.answer-reading.ensures;
-      slots_zero = c.clear_slots.ensures ∙ ap zeros c.answer-reading.auto.1.1.0;
+      slots_zero = c.clear_slots.ensures ∙ ap zeros c.answer-reading.auto.held;
     }

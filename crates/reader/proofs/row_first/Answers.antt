@@ -1,5 +1,4 @@
 use mathlib.Core.Path.{◌≡◌, refl, sym, ap, ◌∙◌}
-use mathlib.Core.Logic.{⊎_elim}
 use Prim.Native.Nat.{suc, ◌-◌, ◌≤◌}
 use native.Mathlib.Omega.{arith}
 use Rattle.running.specs.Running.{Plan, row_first}
@@ -7,10 +6,11 @@ use Rattle.plan.specs.Form.{plan_from}
 use Rattle.plan.proofs.Runnable.{few_kinds}
 use Rattle.reader.proofs.Rows.{row_without, row_with}
 use Rattle.reader.proofs.row_first.Goals as goal
+use Rattle.reader.proofs.row_first.Goals.{In-loop-kind, then-cell_at-ne0, else-cell_at-ne0}
 
 -- a turn, the function's entry before it, and the plan
 abbrev Turn : Type 0
-Turn = goal.In-loop-kind
+Turn = In-loop-kind
 
 abbrev plan-of : Turn → Plan
 plan-of t = plan_from t.args.plan.now t.args.nodes t.args.kinds
@@ -34,10 +34,12 @@ loop-kind-preserved c =
     let first_is = c.loop-kind.invariant.1 in
     let cell_is = c.cell_at.ensures.0 in (
       omega (arith, c.loop-kind-test.true),
-      ⊎_elim
-          (λ w. w.2 ∙ rw (first_is, w.1.ensures) (row_with (plan-of (goal.at.loop-kind-preserved c).In-loop-kind) node kind (λ is. w.0.taken (cell_is ∙ is))))
-          (λ w. w.1 ∙ first_is ∙ row_without (plan-of (goal.at.loop-kind-preserved c).In-loop-kind) node kind (sym cell_is ∙ w.0.left))
-          c.if-cell_at-ne0.branch,
+      elim c.if-cell_at-ne0.branch [
+        | then-cell_at-ne0 w ↦
+            w.first-is ∙ rw (first_is, w.single-first.ensures) (row_with (plan-of (goal.at.loop-kind-preserved c).In-loop-kind) node kind (λ is. w.if-cell_at-ne0.true (cell_is ∙ is)))
+        | else-cell_at-ne0 w ↦
+            w.first-is ∙ first_is ∙ row_without (plan-of (goal.at.loop-kind-preserved c).In-loop-kind) node kind (sym cell_is ∙ w.if-cell_at-ne0.false)
+      ],
     )
 
 pub returns : goal.returns

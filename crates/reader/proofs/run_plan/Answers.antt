@@ -4,9 +4,10 @@ use Rattle.plan.specs.Form.{Runnable}
 use Rattle.plan.proofs.Runnable.{settings_inside, same-plan}
 use Rattle.reader.specs.Reads.{run_of}
 use Rattle.reader.proofs.run_plan.Goals as goal
+use Rattle.reader.proofs.run_plan.Goals.{After-plan_kinds}
 
 -- the plan is runnable
-runs : (v : goal.After-plan_kinds) → Runnable v.args.plan.now v.plan_count.result v.plan_kinds.result
+runs : (v : After-plan_kinds) → Runnable v.args.plan.now v.plan_count.result v.plan_kinds.result
 runs v = record { good = v.requires.0; count_is = v.plan_count.ensures.0; kinds_is = v.plan_kinds.ensures.0 }
 
 pub plan_count-requires : goal.plan_count-requires

@@ -8,10 +8,11 @@ use Rattle.reader.specs.Machine.{event_of}
 use Rattle.reader.proofs.PartsTakenOff.{last_at, last_below, label_small, last_inside, fewer}
 use Rattle.reader.proofs.PartsTakenOff.{take_none, take_walks, take_refuses, take_passes}
 use Rattle.reader.proofs.take_event.Goals as goal
+use Rattle.reader.proofs.take_event.Goals.{In-loop-parts}
 
 -- a turn, in which a part is taken off, and the function's entry
 abbrev Turn : Type 0
-Turn = goal.In-loop-parts
+Turn = In-loop-parts
 
 runs : (t : Turn) → Runnable t.args.plan.now t.args.nodes t.args.kinds
 runs t = t.requires.runs
@@ -65,11 +66,11 @@ walk-requires c =
 
 pub shape_of-held-then-cell_at-ne0 : goal.shape_of-held-then-cell_at-ne0
 shape_of-held-then-cell_at-ne0 c =
-    c.walk.auto.1.1.1.1.1.1.1.1.0 ∙ c.loop-parts.invariant.safe.long
+    c.walk.auto.held ∙ c.loop-parts.invariant.safe.long
 
 pub shape_of-tree-then-cell_at-ne0 : goal.shape_of-tree-then-cell_at-ne0
 shape_of-tree-then-cell_at-ne0 c =
-    c.walk.auto.1.1.1.1.1.1.1.1.1.0 ∙ c.loop-parts.invariant.tree_long
+    c.walk.auto.tree ∙ c.loop-parts.invariant.tree_long
 
 pub returns-then-cell_at-ne0 : goal.returns-then-cell_at-ne0
 unfolding plan_from

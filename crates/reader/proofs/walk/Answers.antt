@@ -13,13 +13,14 @@ use Rattle.reader.proofs.Simulation.{bounded}
 use Rattle.reader.proofs.WalkUnderWay.{Visiting, walk_ends, visits, visit_takes, visit_refuses, visit_deep}
 use Rattle.reader.proofs.WalkUnderWay.{goes_left, goes_right, holds_right, skips_left}
 use Rattle.reader.proofs.walk.Goals as goal
+use Rattle.reader.proofs.walk.Goals.{After-cell_at, In-loop-visits}
 
 -- a turn, and its visit once the cell is read
 abbrev Turn : Type 0
-Turn = goal.In-loop-visits
+Turn = In-loop-visits
 
 abbrev Visited : Type 0
-Visited = goal.After-cell_at
+Visited = After-cell_at
 
 abbrev plan-of : Turn → Plan
 plan-of t = plan_from t.args.plan.now t.args.nodes t.args.kinds
@@ -35,55 +36,62 @@ node_below : (t : Turn) → node t < t.args.nodes
 unfolding plan_from
 node_below t = t.loop-visits.invariant.node_below
 
+abbrev plan-at : Visited → Plan
+plan-at v = plan_from v.args.plan.now v.args.nodes v.args.kinds
+
+below : (v : Visited) → v.loop-visits.node < v.args.nodes
+unfolding plan_from
+below v = v.loop-visits.invariant.node_below
+
 -- the visit of a turn
 abbrev Visit : Visited → Type 0
 Visit v =
     let a = v.args in
     let l = v.loop-visits in
-    Visiting (plan-of (v AS In-loop-visits)) a.kind
-    (walk_of (plan-of (v AS In-loop-visits)) a.kind a.nodes a.from a.outer a.count a.written a.held.now a.tree.now)
+    Visiting (plan-at v) a.kind
+    (walk_of (plan-at v) a.kind a.nodes a.from a.outer a.count a.written a.held.now a.tree.now)
     (length a.held.now) (length a.tree.now) (a.written + a.count + 2 * a.nodes)
-    (a.nodes - (l.visits + 1)) l.node l.label l.parts (l.records + 1) l.held v.note.last.0
+    (a.nodes - (l.visits + 1)) l.node l.label l.parts (l.records + 1) l.held v.note.new.tree
 
 visit : (v : Visited) → Visit v
 visit v = visits v.loop-visits.invariant (omega (arith, v.loop-visits-test.true)) v.note.ensures
 
 -- its cell is the plan's, and a cell that is high enough sends the walk to left or right
-cell_is : (v : Visited) → (plan-of (v AS In-loop-visits)).cell (node (v AS In-loop-visits)) v.args.kind ≡ v.cell_at.result
+cell_is : (v : Visited) → (plan-at v).cell (v.loop-visits.node) v.args.kind ≡ v.cell_at.result
 unfolding plan_from
 cell_is v = sym v.cell_at.ensures.0
 
 asks : (v : Visited) (least : ℕ) → least ≤ v.cell_at.result
     → let bytes = v.args.plan.now in
-    ((plan_judged bytes).number ≡ DONE) × (node (v AS In-loop-visits) < plan_count bytes) × RowHas bytes (node (v AS In-loop-visits)) least
+    ((plan_judged bytes).number ≡ DONE) × (v.loop-visits.node < plan_count bytes) × RowHas bytes (v.loop-visits.node) least
 asks v least high =
-    side_asks (runs (v AS In-loop-visits)) least (node_below (v AS In-loop-visits)) v.requires.1 (omega (arith, cell_is v))
+    side_asks v.requires.0.runs least (below v) v.requires.1 (omega (arith, cell_is v))
 
-left-of : (v : Visited) → (plan_of v.args.plan.now).left (node (v AS In-loop-visits)) ≡ (plan-of (v AS In-loop-visits)).left (node (v AS In-loop-visits))
-left-of v = ap (λ (p : Plan). p.left (node (v AS In-loop-visits))) (sym (same-plan (runs (v AS In-loop-visits))))
+left-of : (v : Visited) → (plan_of v.args.plan.now).left (v.loop-visits.node) ≡ (plan-at v).left (v.loop-visits.node)
+left-of v = ap (λ (p : Plan). p.left (v.loop-visits.node)) (sym (same-plan v.requires.0.runs))
 
-tag_of : (v : Visited) → (plan_of v.args.plan.now).tag (node (v AS In-loop-visits)) ≡ (plan-of (v AS In-loop-visits)).tag (node (v AS In-loop-visits))
-tag_of v = ap (λ (p : Plan). p.tag (node (v AS In-loop-visits))) (sym (same-plan (runs (v AS In-loop-visits))))
+tag_of : (v : Visited) → (plan_of v.args.plan.now).tag (v.loop-visits.node) ≡ (plan-at v).tag (v.loop-visits.node)
+tag_of v = ap (λ (p : Plan). p.tag (v.loop-visits.node)) (sym (same-plan v.requires.0.runs))
 
-right_of : (v : Visited) → (plan_of v.args.plan.now).right (node (v AS In-loop-visits)) ≡ (plan-of (v AS In-loop-visits)).right (node (v AS In-loop-visits))
-right_of v = ap (λ (p : Plan). p.right (node (v AS In-loop-visits))) (sym (same-plan (runs (v AS In-loop-visits))))
+right_of : (v : Visited) → (plan_of v.args.plan.now).right (v.loop-visits.node) ≡ (plan-at v).right (v.loop-visits.node)
+right_of v = ap (λ (p : Plan). p.right (v.loop-visits.node)) (sym (same-plan v.requires.0.runs))
 
 -- the label inside the node is that around it where the cell is above 2
 plain : (v : Visited) → 3 ≤ v.cell_at.result
-    → v.loop-visits.label ≡ inside ((plan-of (v AS In-loop-visits)).tag (node (v AS In-loop-visits))) v.loop-visits.label
+    → v.loop-visits.label ≡ inside ((plan-at v).tag (v.loop-visits.node)) v.loop-visits.label
 plain v high =
-    let none = untagged (runs (v AS In-loop-visits)) (node_below (v AS In-loop-visits)) v.requires.1 (omega (arith, cell_is v)) in
+    let none = untagged v.requires.0.runs (below v) v.requires.1 (omega (arith, cell_is v)) in
     rw none refl
 
-left_small : (v : Visited) → (plan_of v.args.plan.now).left (node (v AS In-loop-visits)) < 512
-left_small v = omega (arith, left-of v, left_node (runs (v AS In-loop-visits)) (node (v AS In-loop-visits)), few_nodes_lem (runs (v AS In-loop-visits)))
+left_small : (v : Visited) → (plan_of v.args.plan.now).left (v.loop-visits.node) < 512
+left_small v = omega (arith, left-of v, left_node v.requires.0.runs (v.loop-visits.node), few_nodes_lem v.requires.0.runs)
 
-right-small : (v : Visited) → (plan_of v.args.plan.now).right (node (v AS In-loop-visits)) < 512
-right-small v = omega (arith, right_of v, right_node (runs (v AS In-loop-visits)) (node (v AS In-loop-visits)), few_nodes_lem (runs (v AS In-loop-visits)))
+right-small : (v : Visited) → (plan_of v.args.plan.now).right (v.loop-visits.node) < 512
+right-small v = omega (arith, right_of v, right_node v.requires.0.runs (v.loop-visits.node), few_nodes_lem v.requires.0.runs)
 
 -- the tree is as long as at the start
-tree_long : (v : Visited) → length v.note.last.0 ≡ length v.args.tree.now
-tree_long v = v.note.kept.0 ∙ v.loop-visits.invariant.tree_long
+tree_long : (v : Visited) → length v.note.new.tree ≡ length v.args.tree.now
+tree_long v = v.note.auto.tree ∙ v.loop-visits.invariant.tree_long
 
 pub loop-visits-init : goal.loop-visits-init
 unfolding plan_from
@@ -157,7 +165,7 @@ bounds-held-parts c = c.if-held-parts.false
 
 pub overflow_add-parts : goal.overflow_add-parts
 overflow_add-parts c =
-    omega (arith, c.if-held-parts.false, c.loop-visits.invariant.held_long, c.good)
+    omega (arith, c.if-held-parts.false, c.loop-visits.invariant.held_long, c.well_formed)
 
 pub left_at-node-requires-in-3 : goal.left_at-node-requires-in-3
 left_at-node-requires-in-3 c = asks (goal.at.left_at-node-requires-in-3 c).After-cell_at 2 (omega (arith, c.in-3.is))
@@ -217,7 +225,7 @@ pub shape_of-tree-in_default : goal.shape_of-tree-in_default
 shape_of-tree-in_default c = tree_long (goal.at.shape_of-tree-in_default c).After-cell_at
 
 pub returns-in_default : goal.returns-in_default
-returns-in_default c = visit_refuses (visit (goal.at.returns-in_default c).After-cell_at) (rw (cell_is (goal.at.returns-in_default c).After-cell_at) c.in_default.rest)
+returns-in_default c = visit_refuses (visit (goal.at.returns-in_default c).After-cell_at) (rw (cell_is (goal.at.returns-in_default c).After-cell_at) c.in_default.in_default-own.rest)
 
 -- no visit is left
 pub shape_of-held : goal.shape_of-held
