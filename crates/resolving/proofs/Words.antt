@@ -1,5 +1,5 @@
 -- Words looked up among others, and the kinds by first appearance, one node after the other.
-use mathlib.Core.Path.{◌≡◌, refl, sym, ap, ◌∙◌}
+use mathlib.Core.Path.{◌≡◌, refl, sym, subst, ap, ◌∙◌}
 use mathlib.Core.Bool.{Bool, true, false, cond, ◌||◌}
 use mathlib.Core.List.{List, [], ◌∷◌, ◌++◌, append_assoc}
 use Prim.Native.Nat.{ℕ, zero, suc, ◌+◌, ◌*◌, ◌-◌, ◌≤◌, ◌<◌}
@@ -98,7 +98,10 @@ words_more text places place (suc left) n fits =
     let next : n + suc left ≡ suc n + left = omega arith in
     rw (one-mul, get_or-set_other places (n + suc left) n place 0 (λ is. omega arith))
     (ap (λ (rest : List (List ℕ)). word_at text (get_or places n 0) ∷ rest)
-    (rw next (words_more text places place left (suc n) (omega arith))))
+    (subst
+    (λ (i : ℕ). words_at text (set places i place) 1 (suc left) (suc n) ≡ words_at text places 1 left (suc n) ++ (word_at text place ∷ []))
+    (sym next)
+    (words_more text places place left (suc n) (omega arith))))
 
 pub kinds_more : (text kinds : List ℕ) (place many : ℕ) → many < length kinds
     → kinds_at text (set kinds many place) (many + 1) ≡ kinds_at text kinds many ++ (word_at text place ∷ [])

@@ -56,7 +56,7 @@ module _ (rules : List Rule) {node : ℕ → Node}
       rw t.name_is (by_rule t.has (derives_means d (part_last last)))
   derives_means (d_ref d) (part_ref l s) = derives_means d (rw s.last_is (part_last (last_star l s)))
 
-  means_derives : {top : Node} {run : List ℕ} {e : Expression} → Means rules e run → Last rules node e top → Derives node top run
+  means_derives : {run : List ℕ} {e : Expression} → Means rules e run → {top : Node} → Last rules node e top → Derives node top run
   means_derives (by_rule {r = r} h m) (last_rule known) = d_ref (means_derives m (at-rule r h))
   means_derives (by_rule h m) (last_kind free kind) = never (sym free ∙ has_among h)
   means_derives (by_kind is) (last_rule known) = never (sym is.no_rule ∙ known)

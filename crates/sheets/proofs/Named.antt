@@ -49,18 +49,18 @@ unseen {r} seen e (there {other} {rules} h) =
     (neither (same r.name other.name) (among r.name seen) (unseen (other.name ∷ seen) t.1 h)).1
 
 module _ (all : List Rule) {node : ℕ → Node} where
-  pub rule_last : (at : ℕ) {r : Rule} {rules : List Rule} (seen : List (List ℕ)) → repeats seen rules ≡ false
+  pub rule_last : {r : Rule} (at : ℕ) {rules : List Rule} (seen : List (List ℕ)) → repeats seen rules ≡ false
       → Known all (all_words rules) → Stand node at (rules_nodes all at rules) → Has r rules
       → Last all node r.expression (node (last_node at rules r.name))
   unfolding rules_nodes all_words last_node repeats among
-  rule_last at {r} seen e known s (here {rules}) =
+  rule_last {r} at seen e known s (here {rules}) =
       rw (same_self r.name)
       (stand_last all at r.expression (known_left (words_in r.expression) (all_words rules) known) (stand_left _ s))
-  rule_last at {r} seen e known s (there {other} {rules} h) =
+  rule_last {r} at seen e known s (there {other} {rules} h) =
       let t = neither (among other.name seen) _ e in
       let apart = (neither (same r.name other.name) (among r.name seen) (unseen (other.name ∷ seen) t.1 h)).0 in
       let next = at + size other.expression in
       rw apart
-      (rule_last next (other.name ∷ seen) t.1 (known_right (words_in other.expression) (all_words rules) known)
+      (rule_last {r = r} next (other.name ∷ seen) t.1 (known_right (words_in other.expression) (all_words rules) known)
       (stand_right (nodes_from all at other.expression) next (omega (arith, length_nodes all at other.expression)) s)
       h)

@@ -22,9 +22,9 @@ use Rattle.syntax.proofs.Signs.{Sign, sign_whole, steps_sign}
 -- what tokens come to from a state
 pub data Comes : State → List Token → List Rule → Type 0 where
   comes_end : {r : Rule} {rules : List Rule} → Comes (name_due (r ∷ rules)) [] (r ∷ rules)
-  comes_word : {s then : State} {seat : Seat} {p : ℕ} {letters : List ℕ} {more : List Token} {rules : List Rule}
+  comes_word : {s : State} {seat : Seat} {p : ℕ} {letters : List ℕ} {then : State} {more : List Token} {rules : List Rule}
       → Seated s seat → Takes seat p letters then → Comes then more rules → Comes s (word p letters ∷ more) rules
-  comes_sign : {s then : State} {p byte : ℕ} {more : List Token} {rules : List Rule}
+  comes_sign : {s : State} {p byte : ℕ} {then : State} {more : List Token} {rules : List Rule}
       → Sign s p byte then → Comes then more rules → Comes s (sign p byte ∷ more) rules
 
 -- a state of the machine, as one outside words and the word under way since

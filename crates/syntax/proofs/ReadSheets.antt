@@ -44,12 +44,17 @@ data BehindStands : Inside → Frame → List Token → List Rule → List Token
 
 seated_stands : {s : State} {i : Inside} {f : Frame} {now text : List Token} {read : List Rule} → Stands s now read text
     → Seated s (factoring i f) → SeatStands i f now read text
+seated_stands name_stands x = elim x [ ]
+seated_stands (equals_stands w) x = elim x [ ]
 seated_stands (inside-stands w opens (due_read r)) seat_due = seat_stands w opens r
 seated_stands (inside-stands w opens (after_read r s)) seat_after = seat_stands w opens (factor_read _ _ r (plain s)).frame_read
 seated_stands (inside-stands w opens (done_read r)) seat_done = seat_stands w opens r.frame_read
 
 followed_stands : {s : State} {i : Inside} {f : Frame} {now text : List Token} {read : List Rule} → Stands s now read text
     → Followed s i f → BehindStands i f now read text
+followed_stands name_stands x = elim x [ ]
+followed_stands (equals_stands w) x = elim x [ ]
+followed_stands (inside-stands w opens (due_read r)) x = elim x [ ]
 followed_stands (inside-stands w opens (after_read r s)) behind-bare = behind-stands w opens (factor_read _ _ r (plain s))
 followed_stands (inside-stands w opens (done_read r)) behind_star = behind-stands w opens r
 

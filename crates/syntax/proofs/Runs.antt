@@ -93,7 +93,7 @@ comes_end_name : {s : State} {rules : List Rule} (at : ℕ) → Comes s [] rules
 unfolding at_end
 comes_end_name at comes_end = refl
 
-never_ends : {s : State} {seat : Seat} {p : ℕ} {letters : List ℕ} {rules : List Rule} → Takes seat p letters s → Comes s [] rules → ⊥
+never_ends : {p : ℕ} {letters : List ℕ} {s : State} {seat : Seat} {rules : List Rule} → Takes seat p letters s → Comes s [] rules → ⊥
 never_ends (takes_name w) = elim [ ]
 never_ends (takes_factor short) = elim [ ]
 

@@ -61,7 +61,7 @@ unfolding step within may_star follows begins letter blank
 end_steps at behind_star = refl
 end_steps at behind-bare = refl
 
-pub sign_steps : {s then : State} {at byte : ℕ} → Sign s at byte then → step s at byte ≡ goes then
+pub sign_steps : {at byte : ℕ} {s then : State} → Sign s at byte then → step s at byte ≡ goes then
 unfolding step within may_star after_name opened closes ends letter blank
 sign_steps an_equals = refl
 sign_steps {at = at} (an_open {i = i} seat room) = open_steps at seat ∙ rw (lt-ltb (length i.opens) 32 room)
@@ -71,7 +71,7 @@ sign_steps {at = at} (a_close {i = i} behind is) = close_steps at behind ∙ rw 
 sign_steps {at = at} (an_end {i = i} behind is) = end_steps at behind ∙ rw is
 
 -- a sign leaves no word under way
-pub sign_whole : {s then : State} {at byte : ℕ} → Sign s at byte then → Whole then
+pub sign_whole : {at byte : ℕ} {s then : State} → Sign s at byte then → Whole then
 sign_whole an_equals = whole_due
 sign_whole (an_open seat room) = whole_due
 sign_whole a_star = whole_done

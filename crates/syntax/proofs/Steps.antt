@@ -62,11 +62,11 @@ seated_whole seat_due = whole_due
 seated_whole seat_after = whole-after
 seated_whole seat_done = whole_done
 
-pub takes_whole : {s : State} {seat : Seat} {p : ℕ} {letters : List ℕ} → Takes seat p letters s → Whole s
+pub takes_whole : {p : ℕ} {letters : List ℕ} {s : State} {seat : Seat} → Takes seat p letters s → Whole s
 takes_whole (takes_name w) = whole_equals
 takes_whole (takes_factor short) = whole-after
 
-pub takes_short : {s : State} {seat : Seat} {p : ℕ} {letters : List ℕ} → Takes seat p letters s → length letters ≤ 16
+pub takes_short : {p : ℕ} {letters : List ℕ} {s : State} {seat : Seat} → Takes seat p letters s → length letters ≤ 16
 takes_short (takes_name w) = w.short
 takes_short (takes_factor short) = short
 

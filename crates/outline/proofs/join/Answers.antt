@@ -11,6 +11,6 @@ pub returns : goal.returns
 returns c =
     joined_by
     (not-false _ c.if-not-further.false)
-    c.back.ensures
+    c.back-left.ensures
     c.back.ensures
     c.put_node-next.ensures

@@ -11,7 +11,7 @@ pub returns : goal.returns
 returns c =
     laid_star
     c.back.ensures
-    c.put_node.ensures
+    c.put_node-then.ensures
     c.put_node-empty.ensures
     c.put_node-either.ensures
     c.put_node.ensures

@@ -6,4 +6,4 @@ pub returns-then-rule-rules : goal.returns-then-rule-rules
 returns-then-rule-rules c = word_ref _ _ _ _ _ _ c.find_word-rule.ensures c.if-rule-rules.true
 
 pub returns : goal.returns
-returns c = word_token _ _ _ _ _ _ c.find_word.ensures c.if-rule-rules.false c.find_word.ensures
+returns c = word_token _ _ _ _ _ _ c.find_word-rule.ensures c.if-rule-rules.false c.find_word.ensures
