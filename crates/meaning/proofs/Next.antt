@@ -15,7 +15,7 @@ use Rattle.meaning.proofs.Parts.{Held, held_none, held_some, derives_before}
 use Rattle.meaning.proofs.Walk.{part_first}
 use Rattle.meaning.proofs.Machine.{cell_first, cell_other}
 use Rattle.meaning.proofs.Size.{first_kind}
-use Rattle.meaning.proofs.Orderly.{Orderly, orderly_part, orderly_run}
+use Rattle.meaning.proofs.Orderly.{Orderly, orderly_end, orderly_part, orderly_run}
 use Rattle.meaning.proofs.Event.{Took}
 
 -- parts held behind a run: they are in order, and derive exactly what the parts held before derive behind that run
@@ -43,6 +43,7 @@ module _ (b : Book) (formed : WellFormed b) (marks : Marks) (marked : Marked b.n
   -- a kind that may come next begins a run of the parts held
   pub next-begins : {held : List ℕ} → Orderly b.node held → Next (plan_for b marks) k held
       → (zs ps : List ℕ) × Held b.node held (k ∷ zs) ps
+  next-begins orderly_end next = elim next [ ]
   next-begins (orderly_part {n} p a o) (next_here known some) =
       let first : marks.first n k ≡ true = holds _ (λ none. some (cell_other b marks marked k n (b.node n) none)) in
       let s = first_iff.0 ((marked.first_is n k).0 first) in
@@ -57,4 +58,4 @@ module _ (b : Book) (formed : WellFormed b) (marks : Marks) (marked : Marked b.n
   begins-next (held_none {n} c h) = next_under ((marked.null_is n).1 c) (begins-next h)
   begins-next (held_some {n} p h) =
       let d = part_first p in
-      next_here (first_kind b formed refl d) (λ is. false≢true (sym (cell_first b marks marked k refl d) ∙ ap (λ (c : ℕ). eqb c 0) is))
+      next_here (first_kind b formed d refl) (λ is. false≢true (sym (cell_first b marks marked k refl d) ∙ ap (λ (c : ℕ). eqb c 0) is))

@@ -107,7 +107,7 @@ module _ {b : Book} (passes : Passes b) (marks : Marks) (marked : Marked b.node 
   -- a kind that begins what parts held derive is one of the book's
   held_kind : {k : ℕ} {held zs ps : List ℕ} → Held b.node held (k ∷ zs) ps → k < b.kinds
   held_kind (held_none c h) = held_kind h
-  held_kind (held_some p h) = first_kind b passes.well_formed refl (part_first p)
+  held_kind (held_some p h) = first_kind b passes.well_formed (part_first p) refl
 
   finish_is : (at : ℕ) (before held : List ℕ) → Finish b.node at before held (finish (plan_for b marks) at before held)
   unfolding finish

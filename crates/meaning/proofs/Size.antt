@@ -53,22 +53,22 @@ module _ {node : ℕ → Node} {k : ℕ} where
 
 module _ {node : ℕ → Node} (none : (n : ℕ) → Conflict node (node n) → ⊥) {k : ℕ} where
   -- all derivations of a kind in FIRST of a node are of one size
-  same_size : {top : Node} → (Conflict node top → ⊥) → (d e : First node top k) → size d ≡ size e
+  same_size : {top : Node} → (d e : First node top k) → (Conflict node top → ⊥) → size d ≡ size e
   unfolding size
-  same_size clear f_token e = let q = token_size e in omega arith
-  same_size clear (f_left d) (f_left e) = ap suc (same_size (none _) d e)
-  same_size clear (f_left d) (f_right e) = absurd (clear (c_first d e))
-  same_size clear (f_right d) (f_left e) = absurd (clear (c_first e d))
-  same_size clear (f_right d) (f_right e) = ap suc (same_size (none _) d e)
-  same_size clear (f_hold d p) (f_hold e q) = ap suc (same_size (none _) d e)
-  same_size clear (f_hold d p) (f_skip a e) = absurd (clear (c_follow (nullable_first_snf a d) e))
-  same_size clear (f_skip a d) (f_hold e q) = absurd (clear (c_follow (nullable_first_snf a e) d))
-  same_size clear (f_skip a d) (f_skip c e) = ap suc (same_size (none _) d e)
-  same_size clear (f_tagged d) (f_tagged e) = ap suc (same_size (none _) d e)
-  same_size clear (f_ref d) (f_ref e) = ap suc (same_size (none _) d e)
+  same_size f_token e clear = let q = token_size e in omega arith
+  same_size (f_left d) (f_left e) clear = ap suc (same_size d e (none _))
+  same_size (f_left d) (f_right e) clear = absurd (clear (c_first d e))
+  same_size (f_right d) (f_left e) clear = absurd (clear (c_first e d))
+  same_size (f_right d) (f_right e) clear = ap suc (same_size d e (none _))
+  same_size (f_hold d p) (f_hold e q) clear = ap suc (same_size d e (none _))
+  same_size (f_hold d p) (f_skip a e) clear = absurd (clear (c_follow (nullable_first_snf a d) e))
+  same_size (f_skip a d) (f_hold e q) clear = absurd (clear (c_follow (nullable_first_snf a e) d))
+  same_size (f_skip a d) (f_skip c e) clear = ap suc (same_size d e (none _))
+  same_size (f_tagged d) (f_tagged e) clear = ap suc (same_size d e (none _))
+  same_size (f_ref d) (f_ref e) clear = ap suc (same_size d e (none _))
 
   same-size_at : {top low : Node} → top ≡ low → (Conflict node top → ⊥) → (d : First node top k) (e : First node low k) → size d ≡ size e
-  same-size_at q clear d e = path_j (λ low q. (e : First node low k) → size d ≡ size e) (λ e. same_size clear d e) q e
+  same-size_at q clear d e = path_j (λ low q. (e : First node low k) → size d ≡ size e) (λ e. same_size d e clear) q e
 
 -- a node on a walk, with so many visits after it
 record On (node : ℕ → Node) (k i : ℕ) : Type 0 where
@@ -143,11 +143,11 @@ module _ (b : Book) (formed : WellFormed b) {k : ℕ} where
       (λ i j h g e. visited_apart none (size d) f i j (dec_lt i (size d)) (dec_lt j (size d)) h g e)
 
   -- a kind in FIRST is one of the book's
-  pub first_kind : {n : ℕ} {top : Node} → b.node n ≡ top → First b.node top k → k < b.kinds
-  first_kind {n} q f_token = token_kind (rw q at (formed.proper n (first_below q f_token)))
-  first_kind q (f_left d) = first_kind refl d
-  first_kind q (f_right d) = first_kind refl d
-  first_kind q (f_hold d p) = first_kind refl d
-  first_kind q (f_skip a d) = first_kind refl d
-  first_kind q (f_tagged d) = first_kind refl d
-  first_kind q (f_ref d) = first_kind refl d
+  pub first_kind : {n : ℕ} {top : Node} → First b.node top k → b.node n ≡ top → k < b.kinds
+  first_kind {n} f_token q = token_kind (rw q at (formed.proper n (first_below q f_token)))
+  first_kind {n = n} (f_left {l = l} d) q = first_kind {n = l} d refl
+  first_kind {n = n} (f_right {r = r} d) q = first_kind {n = r} d refl
+  first_kind {n = n} (f_hold {l = l} d p) q = first_kind {n = l} d refl
+  first_kind {n = n} (f_skip {r = r} a d) q = first_kind {n = r} d refl
+  first_kind {n = n} (f_tagged {l = l} d) q = first_kind {n = l} d refl
+  first_kind {n = n} (f_ref {l = l} d) q = first_kind {n = l} d refl

@@ -1,7 +1,7 @@
 use native.Mathlib.Omega.{arith}
 use mathlib.Core.Path.{sym, ◌∙◌}
 use Prim.Native.Nat.{◌-◌}
-use borrow.Author.Tests.{le-leb, lt-leb, not-true, not-false}
+use borrow.Author.Tests.{le-leb, lt-leb}
 use Rattle.due.proofs.Looking.{looking_begun, over_emptied, over_node, found_here, start_due, tree_whole}
 use Rattle.due.proofs.look_back.Goals as goal
 
@@ -38,7 +38,7 @@ pub returns-then-not-is_nothing : goal.returns-then-not-is_nothing
 returns-then-not-is_nothing c =
     found_here c.loop-at-test.true c.loop-at.invariant (lt-leb _ _ c.if-given-ge-EMPTY.false)
     c.node_in-node.ensures c.found_at-found.ensures
-    (sym c.is_nothing.ensures ∙ not-true _ c.if-not-is_nothing.true)
+    (sym c.is_nothing.ensures ∙ c.if-not-is_nothing.true)
 
 pub whole_from-whole-requires : goal.whole_from-whole-requires
 whole_from-whole-requires c =
@@ -51,8 +51,8 @@ pub loop-at-preserved : goal.loop-at-preserved
 loop-at-preserved c =
     over_node c.loop-at-test.true c.loop-at.invariant (lt-leb _ _ c.if-given-ge-EMPTY.false)
     c.node_in-node.ensures c.found_at-found.ensures
-    (sym c.is_nothing.ensures ∙ not-false _ c.if-not-is_nothing.false)
-    c.IsWhole-from.ensures
+    (sym c.is_nothing.ensures ∙ c.if-not-is_nothing.false)
+    c.whole_from-whole.ensures
 
 pub start_in-requires : goal.start_in-requires
 start_in-requires c = c.requires.form

@@ -8,7 +8,10 @@ use Rattle.turns.proofs.open.Goals as goal
 pub event-requires : goal.event-requires
 event-requires c =
     let pre = c.requires in
-    (pre.0, (omega (arith, pre.1.0, ap kind_of c.in-Token.is), pre.1.1))
+    record {
+      looked = pre.looked;
+      kind_bound = (omega (arith, pre.node_bound.0, ap kind_of c.in-Token.is), pre.node_bound.1);
+    }
 
 pub returns-in-Fail : goal.returns-in-Fail
 unfolding open_of
