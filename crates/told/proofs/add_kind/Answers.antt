@@ -7,5 +7,5 @@ pub returns : goal.returns
 unfolding kind_line
 returns c =
     adds_then
-    (adds_then (adds_then c.add_bytes.ensures c.add_spaced-number.ensures) c.add_name-name.ensures)
+    (adds_then (adds_then c.add_bytes-word.ensures c.add_spaced-number.ensures) c.add_name-name.ensures)
     c.add_bytes.ensures

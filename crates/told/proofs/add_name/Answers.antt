@@ -6,4 +6,4 @@ use Rattle.told.proofs.add_name.Goals as goal
 pub returns : goal.returns
 unfolding name_text
 returns c =
-    adds_then c.add_bytes.ensures (rw c.name_in.ensures at c.add_bytes.ensures)
+    adds_then c.add_bytes-next.ensures (rw c.name_in.ensures at c.add_bytes.ensures)

@@ -16,6 +16,6 @@ unfolding node_line
 returns c =
     rw (← c.node_in-node.ensures)
     (adds_then
-    (adds_then (adds_then c.add_bytes.ensures c.add_spaced-number.ensures)
+    (adds_then (adds_then c.add_bytes-word.ensures c.add_spaced-number.ensures)
     c.add_node_text-line.ensures)
     c.add_bytes.ensures)

@@ -4,4 +4,4 @@ use Rattle.told.proofs.add_pair.Goals as goal
 
 pub returns : goal.returns
 returns c =
-    adds_then (adds_then c.add_bytes-first.ensures c.add_spaced.ensures) c.add_spaced.ensures
+    adds_then (adds_then c.add_bytes-first.ensures c.add_spaced-second.ensures) c.add_spaced.ensures

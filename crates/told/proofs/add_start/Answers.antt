@@ -10,4 +10,4 @@ pub returns : goal.returns
 unfolding start_line
 returns c =
     rw (← c.start_in-start.ensures)
-    (adds_then (adds_then c.add_bytes.ensures c.add_spaced-number.ensures) c.add_bytes.ensures)
+    (adds_then (adds_then c.add_bytes-word.ensures c.add_spaced-number.ensures) c.add_bytes.ensures)

@@ -1,15 +1,7 @@
 -- `told::name_in` meets its contract: a whole name stands where the kind's name begins.
 use native.Mathlib.Omega.{arith}
-use Rattle.names.specs.Names.{name_at}
-use Rattle.names.proofs.Places.{Whole}
 use Rattle.told.proofs.Laws.{name_whole, name_within, name_ends, name_taken}
 use Rattle.told.proofs.name_in.Goals as goal
-
--- a whole name stands where the kind's name begins
-whole-there : (c : goal.After-name_at-at)
-    → let given = c.args in
-    Whole given.book.now (name_at given.book.now c.names_from.result given.kind)
-whole-there c = name_whole c.requires.0 c.requires.1 c.names_from.ensures
 
 pub names_from-requires : goal.names_from-requires
 names_from-requires c = c.requires.0.form
@@ -18,13 +10,13 @@ pub name_at-at-requires : goal.name_at-at-requires
 name_at-at-requires c = name_within c.requires.0 c.requires.1 c.names_from.ensures
 
 pub bounds-book-at : goal.bounds-book-at
-bounds-book-at c = omega (arith, c.name_at-at.ensures, (whole-there (goal.at.bounds-book-at c).After-name_at-at).within)
+bounds-book-at c = omega (arith, c.name_at-at.ensures, (name_whole c.requires.0 c.requires.1 c.names_from.ensures).within)
 
 pub overflow_add-result : goal.overflow_add-result
-overflow_add-result c = omega (arith, c.name_at-at.ensures, (whole-there (goal.at.overflow_add-result c).After-name_at-at).within)
+overflow_add-result c = omega (arith, c.name_at-at.ensures, (name_whole c.requires.0 c.requires.1 c.names_from.ensures).within)
 
 pub overflow_add-result-2 : goal.overflow_add-result-2
-overflow_add-result-2 c = omega (arith, c.name_at-at.ensures, (whole-there (goal.at.overflow_add-result-2 c).After-name_at-at).within)
+overflow_add-result-2 c = omega (arith, c.name_at-at.ensures, (name_whole c.requires.0 c.requires.1 c.names_from.ensures).within)
 
 pub overflow_add-result-3 : goal.overflow_add-result-3
 overflow_add-result-3 c =
