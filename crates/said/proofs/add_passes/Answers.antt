@@ -6,4 +6,4 @@ use Rattle.said.proofs.add_passes.Goals as goal
 pub returns : goal.returns
 unfolding passes_line
 returns c =
-    adds_then (adds_then c.add_bytes.ensures c.add_spaced-second.ensures) c.add_bytes.ensures
+    adds_then (adds_then c.add_bytes-first.ensures c.add_spaced-second.ensures) c.add_bytes.ensures

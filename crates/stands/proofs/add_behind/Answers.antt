@@ -9,7 +9,7 @@ unfolding due_behind
 returns-then-opens-eq0 c =
     rw (eq-eqb _ _ c.if-opens-eq0.true)
     (adds_then
-    (adds_then (adds_then c.add_where-first.ensures c.add_where-second.ensures) c.add_bytes.ensures)
+    (adds_then (adds_then c.add_where-first.ensures c.add_where-second.ensures) c.add_bytes-third.ensures)
     c.add_bytes.ensures)
 
 pub returns : goal.returns

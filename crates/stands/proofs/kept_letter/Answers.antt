@@ -4,4 +4,4 @@ use mathlib.Core.Path.{sym}
 use Rattle.stands.proofs.kept_letter.Goals as goal
 
 pub returns-in_default : goal.returns-in_default
-returns-in_default c = sym (past_empty c.args.number c.in_default.rest)
+returns-in_default c = sym (past_empty c.args.number c.in_default.in_default-own.rest)
