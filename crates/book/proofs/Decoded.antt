@@ -1,14 +1,13 @@
 -- What the bytes of a book of good form decode to.
 use mathlib.Core.Path.{◌≡◌, refl, sym, ap, ◌∙◌}
-use mathlib.Core.Bool.{Bool, true, false, ◌&&◌}
+use mathlib.Core.Bool.{true}
 use mathlib.Core.List.{List}
-use Prim.Native.Nat.{ℕ, zero, suc, ◌+◌, ◌*◌, ◌≤◌, ◌<◌}
+use Prim.Native.Nat.{ℕ, ◌+◌, ◌*◌, ◌≤◌, ◌<◌}
 use native.Mathlib.Omega.{arith}
 use borrow.Author.Tests.{ltb-true, leb-true, lt-ltb, le-ltb}
-use lib.Dec.{ltb, leb, eqb}
+use lib.Dec.{ltb}
 use lib.ListN.{length}
-use Rattle.words.specs.Words.{u16_at}
-use Rattle.words.proofs.Tests.{both, holds, fails, never}
+use Rattle.words.proofs.Tests.{both, holds, never}
 use Rattle.forms.specs.Forms.{contents_are}
 use Rattle.names.specs.Names.{NAMES, names_good, first_bad_name}
 use Rattle.book.specs.Book.{Proper, fail_is, empty_is, token_is, either_is, then_is, tagged_is, ref_is, WellFormed}

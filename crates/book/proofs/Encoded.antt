@@ -1,19 +1,19 @@
 -- Every well-formed book has bytes, without names and, with good names for its kinds, with them: their form is done, and they decode to
 -- the book and the names.
-use mathlib.Core.Path.{◌≡◌, refl, sym, ap, subst, ◌∙◌}
+use mathlib.Core.Path.{◌≡◌, refl, sym, ap, ◌∙◌}
 use mathlib.Core.Bool.{Bool, true, false, ◌&&◌, cond}
-use mathlib.Core.List.{List, [], ◌∷◌, ◌++◌, append-nil}
-use Prim.Native.Nat.{ℕ, ◌+◌, ◌*◌, ◌-◌, ◌/◌, ◌≤◌, ◌<◌}
+use mathlib.Core.List.{List, [], ◌++◌, append-nil}
+use Prim.Native.Nat.{ℕ, ◌+◌, ◌*◌, ◌-◌, ◌≤◌, ◌<◌}
 use native.Mathlib.Omega.{arith}
 use borrow.Author.Tests.{ltb-true, ltb-false, le-leb, eq-eqb}
-use lib.Dec.{ltb, leb, eqb}
+use lib.Dec.{ltb, leb}
 use lib.ListN.{length, length-append}
-use Rattle.words.specs.Words.{u16_at, word_bytes}
+use Rattle.words.specs.Words.{word_bytes}
 use Rattle.words.proofs.Tests.{joined}
-use Rattle.forms.specs.Forms.{contents_size, form_size, contents_of, contents_are}
-use Rattle.names.specs.Names.{names_good, name_at, names_of, names_bytes, GoodNames}
+use Rattle.forms.specs.Forms.{contents_size, form_size, contents_of}
+use Rattle.names.specs.Names.{names_good, names_bytes, GoodNames}
 use Rattle.names.proofs.Places.{name_first, ends-before}
-use Rattle.names.proofs.Standing.{Standing, names_stand, names_end, names_short, names_have_bytes, names_are_read}
+use Rattle.names.proofs.Standing.{names_stand, names_end, names_short, names_have_bytes, names_are_read}
 use Rattle.book.specs.Book.{Book, WellFormed}
 use Rattle.book.specs.Decode.{nodes}
 use Rattle.book.specs.Encode.{body_words, book_bytes, named_bytes}

@@ -1,9 +1,9 @@
 -- Laws of the form of a book: where its parts stand, what good contents say, and the answer by each test.
-use mathlib.Core.Path.{◌≡◌, refl, ap, ◌∙◌}
+use mathlib.Core.Path.{◌≡◌, refl}
 use mathlib.Core.Bool.{Bool, true, false, ◌&&◌, cond}
 use mathlib.Core.Logic.{◌⊎◌, inl, inr}
 use mathlib.Core.List.{List}
-use Prim.Native.Nat.{ℕ, ◌+◌, ◌*◌, ◌-◌, ◌/◌, ◌≤◌, ◌<◌}
+use Prim.Native.Nat.{ℕ, ◌+◌, ◌-◌, ◌/◌, ◌≤◌, ◌<◌}
 use native.Mathlib.Omega.{arith}
 use borrow.Author.Tests.{leb-true, ltb-true, eqb-true, le-leb, lt-leb}
 use lib.Dec.{leb, eqb}
@@ -11,7 +11,7 @@ use lib.ListN.{length}
 use Rattle.words.specs.Words.{u16_at}
 use Rattle.words.proofs.FirstBad.{first_most}
 use Rattle.words.proofs.Tests.{both, fails}
-use Rattle.forms.specs.Forms.{contents_size, contents_are}
+use Rattle.forms.specs.Forms.{contents_are}
 use Rattle.names.specs.Names.{NAMES, name_good, names_good, first_bad_name}
 use Rattle.book.specs.Form.{judged, DONE, LENGTH, CONTENTS, SETTINGS, NODE, named, settings_at, count_of, names_at, kinds_of}
 use Rattle.book.specs.Form.{book_sections, named_sections, sections_of, few_nodes, length_good, contents_good, settings_good}

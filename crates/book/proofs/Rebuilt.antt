@@ -1,6 +1,6 @@
 -- Bytes of good form are those of the book that they decode to, with the names that stand in them.
 use mathlib.Core.Path.{◌≡◌, refl, sym, ap, ◌∙◌}
-use mathlib.Core.Bool.{Bool, true, false, ◌&&◌, cond}
+use mathlib.Core.Bool.{Bool, true, false, ◌&&◌}
 use mathlib.Core.List.{List, [], ◌∷◌, ◌++◌, append-nil}
 use Prim.Native.Nat.{ℕ, zero, suc, ◌+◌, ◌*◌, ◌-◌, ◌≤◌, ◌<◌}
 use native.Mathlib.Omega.{arith}
@@ -14,7 +14,7 @@ use Rattle.words.proofs.Bytes.{length_words}
 use Rattle.words.proofs.FirstBad.{first_none}
 use Rattle.words.proofs.Tests.{joined, both, never}
 use Rattle.forms.specs.Forms.{contents_of, words_are}
-use Rattle.forms.proofs.Contents.{length_contents, words_are_lem, words_joined, words_stand}
+use Rattle.forms.proofs.Contents.{words_are_lem, words_joined, words_stand}
 use Rattle.names.specs.Names.{names_good, names_bytes, GoodNames}
 use Rattle.names.proofs.Standing.{length_names, names_stand, names_end, names_all, names_read_good}
 use Rattle.book.specs.Book.{Book}

@@ -86,7 +86,7 @@ after_cases P form house next room form-bad house-bad all-good = by_form (eqb fo
 pub record ForwardDone (bytes house : List ℕ) (room : ℕ) : Type 0 where
   pub form : (form_of bytes).number ≡ DONE
   pub plain : named bytes ≡ false
-  pub house_good_lem : house_good house ≡ true
+  pub house_good : house_good house ≡ true
   pub fits : length (named_of bytes house) ≤ room
 
 pub forward_done : (bytes house : List ℕ) (room : ℕ) → (forward_of bytes house room).answer.number ≡ DONE → ForwardDone bytes house room
@@ -98,12 +98,12 @@ forward_done bytes house room =
     (λ done. absurd (omega (arith, done)))
     (λ own good done.
     let (plain, form) = own_done bytes (not (named bytes)) own in
-    record { form = form; plain = not-true _ plain; house_good_lem = good; fits = done_room (named_of bytes house) room done })
+    record { form = form; plain = not-true _ plain; house_good = good; fits = done_room (named_of bytes house) room done })
 
 pub record BackDone (bytes house : List ℕ) (room : ℕ) : Type 0 where
   pub form : (form_of bytes).number ≡ DONE
   pub has : named bytes ≡ true
-  pub house_good_lem : house_good house ≡ true
+  pub house_good : house_good house ≡ true
   pub names_are : book_names bytes ≡ house_names house (book_of bytes).kinds
   pub fits : length (plain_of bytes) ≤ room
 
@@ -124,7 +124,7 @@ back_done bytes house room =
         record {
           form = form;
           has = has;
-          house_good_lem = good;
+          house_good = good;
           names_are = same_names_are _ _ is;
           fits = done_room (plain_of bytes) room done;
         }
@@ -150,7 +150,7 @@ pub forward_back : (bytes house : List ℕ) (room again : ℕ) → Below 256 byt
     → back_of (taken (forward_of bytes house room)) house again ≡ handed bytes again
 forward_back bytes house room again below answer =
     ap (λ (l : List ℕ). back_of l house again) written_is
-    ∙ back_is there house again (ap (λ (j : Judged). j.number) read.0) (named_are_named book names wf good enough) d.house_good_lem
+    ∙ back_is there house again (ap (λ (j : Judged). j.number) read.0) (named_are_named book names wf good enough) d.house_good
     (read.2 ∙ ap (house_names house) (sym (ap (λ (b : Book). b.kinds) read.1)))
     ∙ ap (λ (l : List ℕ). handed l again) (ap book_bytes read.1 ∙ good_form_bytes bytes below d.form d.plain)
   where
@@ -170,7 +170,7 @@ forward_back bytes house room again below answer =
     wf = well_formed (formed bytes d.form)
 
     good : GoodNames names
-    good = first_good house book.kinds (house_stands bytes d.form house d.house_good_lem) wf.few_kinds
+    good = first_good house book.kinds (house_stands bytes d.form house d.house_good) wf.few_kinds
 
     enough : length names ≡ book.kinds
     enough = length_names house 0 book.kinds 0
@@ -180,7 +180,7 @@ forward_back bytes house room again below answer =
 
     written_is : taken (forward_of bytes house room) ≡ there
     written_is =
-        ap taken (forward_is bytes house room d.form d.plain d.house_good_lem ∙ room_enough_lem there room d.fits)
+        ap taken (forward_is bytes house room d.form d.plain d.house_good ∙ room_enough_lem there room d.fits)
         ∙ taken_over there room
 
 -- a book moved back, then forward, is the same bytes again
@@ -188,7 +188,7 @@ pub back_forward : (bytes house : List ℕ) (room again : ℕ) → Below 256 byt
     → forward_of (taken (back_of bytes house room)) house again ≡ handed bytes again
 back_forward bytes house room again below answer =
     ap (λ (l : List ℕ). forward_of l house again) written_is
-    ∙ forward_is there house again (ap (λ (j : Judged). j.number) read.0) (plain_are_not book wf) d.house_good_lem
+    ∙ forward_is there house again (ap (λ (j : Judged). j.number) read.0) (plain_are_not book wf) d.house_good
     ∙ ap (λ (l : List ℕ). handed l again) same_bytes
   where
     d : BackDone bytes house room
@@ -208,7 +208,7 @@ back_forward bytes house room again below answer =
 
     written_is : taken (back_of bytes house room) ≡ there
     written_is =
-        ap taken (back_is bytes house room d.form d.has d.house_good_lem d.names_are ∙ room_enough_lem there room d.fits)
+        ap taken (back_is bytes house room d.form d.has d.house_good d.names_are ∙ room_enough_lem there room d.fits)
         ∙ taken_over there room
 
     same_bytes : named_bytes (book_of there) (house_names house (book_of there).kinds) ≡ bytes

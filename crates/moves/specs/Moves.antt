@@ -62,7 +62,7 @@ back_of bytes house room =
 -- what the writers of these bytes are called with: a book of good form, where the names end, room in a clear buffer
 pub record NamedRoom (bytes house : List ℕ) (end : ℕ) (out : List ℕ) : Type 0 where
   pub form : (form_of bytes).number ≡ DONE
-  pub house_good_lem : house_good house ≡ true
+  pub house_good : house_good house ≡ true
   pub end_is : end ≡ name_at house 0 (book_of bytes).kinds
   pub fits : length (named_of bytes house) ≤ length out
   pub clear : out ≡ zeros (length out)

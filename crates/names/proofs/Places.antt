@@ -92,6 +92,13 @@ module _ {byte read : ℕ} (is : read ≡ byte) where
   pub is_visible : 33 ≤ read → read ≤ 126 → visible byte ≡ true
   is_visible least most = joined _ _ (le-leb 33 byte (omega arith)) (le-leb byte 126 (omega arith))
 
+-- a name whose length byte is too low, or too high, is not whole
+pub none_short : (bytes : List ℕ) (at : ℕ) → get_or bytes at 0 < 1 → whole_at bytes at ≡ false
+none_short bytes at short = not_whole bytes at (λ w. omega (arith, w.some_byte, short))
+
+pub none_long : (bytes : List ℕ) (at : ℕ) → 16 < get_or bytes at 0 → whole_at bytes at ≡ false
+none_long bytes at long = not_whole bytes at (λ w. omega (arith, w.few_bytes, long))
+
 -- a whole name, by the tests of its bytes
 pub whole_by : (bytes : List ℕ) (at : ℕ) {size : ℕ} {all : Bool} → size ≡ get_or bytes at 0 → 1 ≤ size → size ≤ 16
     → at + 1 + size ≤ length bytes → all ≡ all_visible bytes (at + 1) size → all ≡ whole_at bytes at

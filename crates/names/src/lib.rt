@@ -41,6 +41,7 @@ fn all_visible(bytes: &[u8], from: usize, size: usize) -> bool
 }
 
 // Whether the name at a place is whole: a length byte from 1 to 16, and that many bytes from 33 to 126.
+#[tactic(auto, using(crate::proofs::Places::none_short, crate::proofs::Places::none_long))]
 fn name_whole(bytes: &[u8], at: usize) -> bool
     requires { at ≤ length bytes.now }
     ensures { result ≡ whole_at bytes.now at }

@@ -1,7 +1,4 @@
-use Prim.Native.Nat.{◌-◌}
-use borrow.Author.Tests.{not-true, not-false}
 use mathlib.Core.Path.{◌∙◌, sym}
-use Rattle.book.specs.Decode.{node_good}
 use Rattle.words.proofs.FirstBad.{searched_none, searched_more, searched_bad, searched_all}
 use Rattle.book.proofs.first_bad.Goals as goal
 

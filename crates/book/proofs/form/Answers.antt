@@ -1,9 +1,7 @@
 -- `book::form` meets its contract: each return is the law of `form_of` for the tests that led there.
 use mathlib.Core.Path.{◌≡◌, sym, ◌∙◌}
 use mathlib.Core.Bool.{true}
-use Prim.Native.Nat.{◌≤◌, ◌<◌}
 use native.Mathlib.Omega.{arith}
-use borrow.Author.Tests.{not-true, not-false}
 use Rattle.book.specs.Form.{settings_at, count_of, bad_node, length_good, contents_good, settings_good}
 use Rattle.book.proofs.Laws.{Sized, sized, length_least, settings_say}
 use Rattle.book.proofs.Laws.{form_length, form_contents, form_settings, form_node, form_names}

@@ -63,7 +63,7 @@ write_named-requires c =
     let clear = c.clear_bytes.ensures in
     record {
       form = before.0;
-      house_good_lem = before.1;
+      house_good = before.1;
       end_is = end_is (goal.at.write_named-requires c).After-count_in;
       fits = omega (arith, size_is (goal.at.write_named-requires c).After-count_in, c.if-out-size.false, clear_long (length c.args.out.now) clear);
       clear = clear_is (length c.args.out.now) clear;

@@ -15,14 +15,14 @@ room : (c : After-count_in-nodes)
     → 24 + 6 * (book_of c.args.book.now).count + c.args.end ≤ length c.args.out.now
 room c =
     let before = c.requires in
-    let long = named_long c.args.book.now before.form c.args.house.now before.house_good_lem in
+    let long = named_long c.args.book.now before.form c.args.house.now before.house_good in
     omega (arith, before.fits, before.end_is, long)
 
 small : (c : After-count_in-nodes) → ((book_of c.args.book.now).count ≤ 512) × (c.args.end ≤ 1088)
 small c =
     let before = c.requires in (
       few_nodes_lem c.args.book.now before.form,
-      omega (arith, before.end_is, end_small c.args.book.now before.form c.args.house.now before.house_good_lem),
+      omega (arith, before.end_is, end_small c.args.book.now before.form c.args.house.now before.house_good),
     )
 
 pub overflow_mul-nodes : goal.overflow_mul-nodes
@@ -55,7 +55,7 @@ overflow_add-at-2 c =
 pub copy_bytes-requires-2 : goal.copy_bytes-requires-2
 copy_bytes-requires-2 c =
     let before = c.requires in (
-      omega (arith, before.end_is, end_within _ before.form _ before.house_good_lem),
+      omega (arith, before.end_is, end_within _ before.form _ before.house_good),
       omega (
         arith,
         room (goal.at.copy_bytes-requires-2 c).After-count_in-nodes,
@@ -69,7 +69,7 @@ copy_bytes-requires-2 c =
 pub returns : goal.returns
 returns c =
     let before = c.requires in
-    named_laid _ before.form _ before.house_good_lem before
+    named_laid _ before.form _ before.house_good before
     (below_each _ (λ i. (c.type_inv.book i).fits))
     (ap (λ (n : ℕ). 6 * n) c.count_in-nodes.ensures)
     c.contents_size-at.ensures

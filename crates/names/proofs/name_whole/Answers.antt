@@ -7,12 +7,6 @@ use Rattle.names.proofs.name_whole.Goals as goal
 pub returns-then-bytes-at : goal.returns-then-bytes-at
 returns-then-bytes-at c = sym (none_past _ _ c.if-bytes-at.true)
 
-pub returns-then-size-lt1 : goal.returns-then-size-lt1
-returns-then-size-lt1 c = sym (not_whole _ _ (λ w. omega (arith, w.some_byte, c.wide-size.ensures.0, c.if-size-lt1.true)))
-
-pub returns-then-size-gt16 : goal.returns-then-size-gt16
-returns-then-size-gt16 c = sym (not_whole _ _ (λ w. omega (arith, w.few_bytes, c.wide-size.ensures.0, c.if-size-gt16.true)))
-
 pub returns-then-bytes-at-2 : goal.returns-then-bytes-at-2
 returns-then-bytes-at-2 c = sym (not_whole _ _ (λ w. omega (arith, w.within, c.wide-size.ensures.0, c.if-bytes-at-2.true)))
 
