@@ -7,7 +7,7 @@ use mathlib.Core.Bool.{Bool, true, false, cond}
 use mathlib.Core.Logic.{◌⊎◌, inl, inr}
 use lib.Dec.{ltb}
 use Rattle.book.specs.declared.Node.{Node}
-use Rattle.lengths.specs.Least.{NoneShorter, Least, LeastCut, below_cap, at_cap}
+use Rattle.lengths.specs.Least.{NoneShorter, LeastCut, below_cap, at_cap}
 use Rattle.lengths.specs.Falling.{smaller}
 
 -- ---- the smaller of two numbers

@@ -3,7 +3,7 @@
 use Prim.Native.Nat.{ℕ, zero, suc, ◌+◌, ◌≤◌, ◌<◌}
 use native.Mathlib.Omega.{arith}
 use native.Mathlib.Decide.{ℕ_discrete, dec_lt}
-use mathlib.Core.Path.{◌≡◌, refl, sym, ap, ◌∙◌, subst}
+use mathlib.Core.Path.{◌≡◌, refl, sym, subst}
 use mathlib.Core.Bool.{Bool, true, false, true≢false}
 use mathlib.Core.List.{List, [], ◌∷◌, ◌++◌}
 use mathlib.Core.Logic.{◌⊎◌, inl, inr, ⊎_elim, ◌≢◌}
@@ -15,7 +15,7 @@ use Rattle.grammar.specs.Derivations.{Derives, d_empty, d_token, d_left, d_right
 use Rattle.rules.specs.Growth.{total, GoneOn, went_down, Sound, Grown}
 use Rattle.rules.proofs.Growing.{grown_none, total-set, Settling}
 use Rattle.lengths.specs.Least.{length_at, LeastCut, below_cap, at_cap}
-use Rattle.lengths.specs.Falling.{smaller, length_of, at_most, Short, ShortAt, NoLonger, Fresh, Shortened, AllShortened}
+use Rattle.lengths.specs.Falling.{length_of, at_most, Short, ShortAt, NoLonger, Fresh, Shortened, AllShortened}
 use Rattle.lengths.proofs.Cutting.{smaller-left, smaller_right, smaller_one}
 
 -- ---- tables

@@ -1,7 +1,7 @@
 -- Marks that spread from marked nodes to their children: each stands for a reachable node, and where none is new, all of those are marked.
 use Prim.Native.Nat.{ℕ, ◌+◌, ◌*◌, ◌/◌, ◌%◌, ◌≤◌, ◌<◌}
 use mathlib.Core.Path.{◌≡◌, refl, sym, ◌∙◌, subst}
-use mathlib.Core.Bool.{Bool, true, false, ◌||◌, not}
+use mathlib.Core.Bool.{Bool, true, false, ◌||◌}
 use mathlib.Core.List.{List}
 use mathlib.Core.Logic.{◌↔◌, ⊎_elim}
 use native.Mathlib.Omega.{arith}

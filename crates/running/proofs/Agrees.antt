@@ -1,5 +1,5 @@
 -- Plans that agree below their count give the same readings: the held parts stay below the count.
-use mathlib.Core.Path.{◌≡◌, refl, ap, ap₂, ◌∙◌}
+use mathlib.Core.Path.{◌≡◌, refl, ap, ◌∙◌}
 use mathlib.Core.Bool.{Bool, true, false, cond}
 use mathlib.Core.List.{List, [], ◌∷◌}
 use Prim.Native.Nat.{ℕ, zero, suc, ◌<◌}
@@ -7,7 +7,7 @@ use borrow.Author.Tests.{ltb-true}
 use lib.Dec.{ltb, eqb}
 use lib.ListN.{length}
 use Rattle.running.specs.Running.{Plan, Move, refuse, take_event, go_left, hold_right, skip_left, go_right, move_of, Step, taken, refused, noted, emptied}
-use Rattle.running.specs.Running.{visit, take_off, walk, event, Answer, stopped, DEEP, UNKNOWN, UNEXPECTED, END, logged, onward, finish, reads, reading}
+use Rattle.running.specs.Running.{visit, take_off, walk, event, Answer, stopped, UNKNOWN, logged, onward, finish, reads, reading}
 
 -- two plans agree in count, kinds and start, and below the count in left, right, cells and nullable marks
 pub record Agree (p q : Plan) : Type 0 where

@@ -11,7 +11,7 @@ use borrow.Author.Tests.{ltb-true, eqb-false, ne_eqb}
 use lib.Dec.{ltb, eqb}
 use Rattle.kinds.specs.Kinds.{Has, only_kind, joined}
 use Rattle.kinds.proofs.Laws.{none, has_single, has_join}
-use Rattle.running.specs.Running.{Plan, Step, event, Answer, accepted, stopped, UNKNOWN, END, emptied}
+use Rattle.running.specs.Running.{Plan, Step, event, Answer, accepted, stopped, UNKNOWN}
 use Rattle.running.specs.Running.{logged, onward, finish, reads, reading, row_first, expected, Next, next_here, next_under}
 use Rattle.running.proofs.Agrees.{Agree, Below, none_held, one_held, Kept, kept-taken, kept-refused, event_kept}
 

@@ -8,7 +8,7 @@ use mathlib.Core.List.{List, [], ◌∷◌}
 use lib.Dec.{ltb, eqb}
 use lib.ListN.{length}
 use Rattle.running.specs.Running.{Plan, Move, refuse, take_event, go_left, hold_right, skip_left, go_right, move_of, emptied}
-use Rattle.running.specs.Running.{StepOf, taken, refused, AnswerOf, accepted, stopped, DEEP, UNKNOWN, UNEXPECTED, END}
+use Rattle.running.specs.Running.{StepOf, taken, refused, AnswerOf, accepted, stopped}
 use Rattle.running.specs.Running.{noted, take_off, logged, onward}
 use Rattle.running.specs.Stages.{Part, part, inside, staged_visit, staged_walk, staged_event, staged_finish, staged_reads, staged_reading}
 use Rattle.running.specs.Stages.{InStage, at_start, to_left, to_right, AllInStage, none_held, and_held}

@@ -9,7 +9,7 @@ use lib.Dec.{ltb, eqb}
 use lib.ListN.{length}
 use borrow.Author.Tests.{lt-ltb, ltb-true}
 use Rattle.running.specs.Running.{Plan, Move, refuse, take_event, go_left, hold_right, skip_left, go_right, move_of, with_slots, unlimited}
-use Rattle.running.specs.Running.{DEEP, UNKNOWN, UNEXPECTED, END, RUNAWAY, Step, taken, refused, emptied, noted, visit, take_off, walk, event}
+use Rattle.running.specs.Running.{DEEP, UNEXPECTED, RUNAWAY, Step, taken, refused, emptied, noted, visit, take_off, walk, event}
 use Rattle.running.specs.Running.{Answer, accepted, stopped, logged, onward, finish, reads, reading}
 use Rattle.running.specs.Stages.{Part, staged_reading, nodes_of, bare_answer}
 use Rattle.running.proofs.Limits.{free_answers}

@@ -1,5 +1,5 @@
 -- Plans that agree below their count, in tags too, give the same readings with labels.
-use mathlib.Core.Path.{◌≡◌, refl, sym, ap, subst, ◌∙◌}
+use mathlib.Core.Path.{◌≡◌, refl, ap, ◌∙◌}
 use mathlib.Core.Bool.{Bool, true, false, cond}
 use mathlib.Core.List.{List, [], ◌∷◌}
 use Prim.Native.Nat.{ℕ, zero, suc, ◌<◌}
@@ -9,7 +9,7 @@ use Rattle.running.specs.Running.{Plan, Move, refuse, take_event, go_left, hold_
 use Rattle.running.specs.Running.{StepOf, taken, refused, noted, take_off, AnswerOf, stopped, UNKNOWN, logged, onward}
 use Rattle.running.specs.Stages.{Part, part, inside, staged_visit, staged_walk, staged_event, staged_finish, staged_reads, staged_reading}
 use Rattle.running.specs.Stages.{nodes_of, bare_step, bare_answer}
-use Rattle.running.proofs.Agrees.{Agree, Below, none_held, one_held, Kept, kept-taken, kept-refused, event_kept}
+use Rattle.running.proofs.Agrees.{Agree, Below, none_held, one_held, Kept, kept-taken, event_kept}
 use Rattle.running.proofs.Expected.{Carried, reading_carried}
 use Rattle.running.proofs.Stages.{event_bare, reading_bare}
 

@@ -1,21 +1,19 @@
 -- Weights that fall: a length below the cap has a run as short, a table that is closed has no length above that of a run, and so a table
 -- that is both has the least weights.
-use Prim.Native.Nat.{ℕ, zero, suc, ◌+◌, ◌≤◌, ◌<◌}
+use Prim.Native.Nat.{ℕ, zero, suc, ◌≤◌, ◌<◌}
 use native.Mathlib.Omega.{arith}
 use native.Mathlib.Decide.{ℕ_discrete, dec_lt}
-use mathlib.Core.Path.{◌≡◌, refl, sym, ap, ◌∙◌, subst}
+use mathlib.Core.Path.{◌≡◌, refl, sym, subst}
 use mathlib.Core.Bool.{Bool, true, false, true≢false}
 use mathlib.Core.List.{List, [], ◌∷◌, ◌++◌}
 use mathlib.Core.Logic.{◌⊎◌, inl, inr, ⊎_elim, ◌≢◌}
-use lib.ListN.{length, get_or, set, length-set, length-append, replicate, length-replicate}
+use lib.ListN.{length, get_or, set, length-set, replicate, length-replicate}
 use lib.Seq.{get_or-set_same, get_or-set_other}
 use Rattle.book.specs.declared.Node.{Node}
 use Rattle.book.specs.declared.Node.TheVariants.{Fail, Empty, Token, Either, Then, Tagged, Ref}
 use Rattle.grammar.specs.Derivations.{Derives, d_empty, d_token, d_left, d_right, d_then, d_tagged, d_ref}
 use Rattle.rules.specs.Growth.{total, GoneOn, went_down, Sound, Grown}
 use Rattle.rules.proofs.Growing.{grown_none, total-set, Settling}
-use Rattle.rules.specs.Step.{kind_of}
-use Rattle.lengths.specs.Falling.{smaller}
 use Rattle.lengths.proofs.Cutting.{smaller-left, smaller_right, smaller_one}
 use Rattle.lengths.proofs.Lowering.{get_d_within}
 use Rattle.weights.specs.Weight.{weight_of, CAP, weight_at, NoneLighter, Lightest, LightestCut, below_cap, at_cap, Weights}

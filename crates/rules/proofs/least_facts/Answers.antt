@@ -1,5 +1,5 @@
 use mathlib.Core.Path.{ap, ◌∙◌}
-use mathlib.Core.Bool.{Bool, false, ◌||◌}
+use mathlib.Core.Bool.{Bool, ◌||◌}
 use native.Mathlib.Omega.{arith}
 use Rattle.rules.proofs.Growing.{grown_sound, grown_then, settling_none, settling_more}
 use Rattle.rules.proofs.Growing.{blank_sound, settling_less}

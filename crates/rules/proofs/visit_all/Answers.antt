@@ -1,4 +1,3 @@
-use Prim.Native.Nat.{◌-◌}
 use native.Mathlib.Omega.{arith}
 use Rattle.rules.proofs.Growing.{grown_sound}
 use Rattle.rules.proofs.Climbing.{climbed_none, climbed_more, climbed_end}

@@ -1,4 +1,3 @@
-use Prim.Native.Nat.{◌-◌}
 use native.Mathlib.Omega.{arith}
 use Rattle.rules.proofs.Growing.{turning_none, turning_more, turning_end, grown_sound}
 use Rattle.weights.proofs.visit_all.Goals as goal
