@@ -12,4 +12,8 @@ put_plan-requires c =
     let left = c.judge-verdict.ensures in
     let known = left.known c.if-verdict-ne-DONE.false in
     let pre = c.requires in
-    (passed_judges left.judges c.if-verdict-ne-DONE.false, (known, pre.1 known.good.form))
+    record {
+      judges = passed_judges left.judges c.if-verdict-ne-DONE.false;
+      known = known;
+      fresh = pre.fresh known.good.form;
+    }

@@ -25,11 +25,11 @@ part-is book {at} {count} below form count_is at_is =
 
 pub copy_bytes-requires : goal.copy_bytes-requires
 copy_bytes-requires c =
-    omega (arith, c.settings_from.ensures, nodes_end (formed c.args.book.now c.requires.0.0), c.requires)
+    omega (arith, c.settings_from.ensures, nodes_end (formed c.args.book.now c.requires.book_value.0), c.requires.book_value, c.requires.count_in_bounds)
 
 pub returns : goal.returns
 returns c =
     c.copy_bytes.ensures
     ∙ ap (sets _ _)
-    (part-is c.args.book.now (below_each _ (λ i. (c.type_inv.book i).fits)) c.requires.0.0 c.requires.0.1
+    (part-is c.args.book.now (below_each _ (λ i. (c.type_inv.book i).fits)) c.requires.book_value.0 c.requires.book_value.1
     c.settings_from.ensures)

@@ -14,9 +14,6 @@ use Rattle.writer.proofs.write_rows.Goals as goal
 pub loop-n-init : goal.loop-n-init
 loop-n-init c = (lists_none _ _ _ _, first_row _ _, c.requires.1)
 
-abbrev At : Type 0
-At = goal.At-loop-n
-
 pub write_row-requires : goal.write_row-requires
 write_row-requires c =
     let inv = c.loop-n.invariant in
