@@ -91,16 +91,17 @@ module _ {plan other : List ℕ} (alike : AlikeButDue plan other) where
       → BoardsAlike (drums_after plan drums cs) (drums_after other others cs)
   unfolding drums_after
   after_alike same [] = same
-  after_alike same (c ∷ cs) = after_alike (call_alike same c).boards cs
+  after_alike {drums = drums} {others = others} same (c ∷ cs) =
+      after_alike {drums = (call_on plan drums c).drums} {others = (call_on other others c).drums} (call_alike same c).boards cs
 
   answers_alike : (d : ℕ) {drums others : List Drum} → BoardsAlike drums others → (cs : List Call)
       → answers_for plan d drums cs ≡ answers_for other d others cs
   unfolding answers_for
   answers_alike d same [] = refl
-  answers_alike d same (c ∷ cs) =
+  answers_alike d {drums = drums} {others = others} same (c ∷ cs) =
       let step = call_alike same c in
       ap₂ (λ (r : Reading) (rest : List Reading). cond (eqb c.number d) (r ∷ rest) rest) step.answer
-      (answers_alike d step.boards cs)
+      (answers_alike d {drums = (call_on plan drums c).drums} {others = (call_on other others c).drums} step.boards cs)
 
   -- calls one after another on boards that are alike
   pub sequences_alike : {drums others : List Drum} → BoardsAlike drums others → (cs : List Call) → SequencesAlike plan other drums others cs
