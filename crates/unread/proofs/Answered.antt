@@ -36,10 +36,10 @@ is_found : {A B : Type 0} → A ⊎ B → Bool
 is_found (inl a) = true
 is_found (inr b) = false
 
-is_found : {A : Type 0} (x : A ⊎ (A → ⊥)) → (is_found x ≡ true) ↔ A
+found_is : {A : Type 0} (x : A ⊎ (A → ⊥)) → (is_found x ≡ true) ↔ A
 unfolding is_found
-is_found (inl a) = ((λ e. a), (λ b. refl))
-is_found (inr f) = ((λ e. never e), (λ a. absurd (f a)))
+found_is (inl a) = ((λ e. a), (λ b. refl))
+found_is (inr f) = ((λ e. never e), (λ a. absurd (f a)))
 
 module _ (b : Book) (wf : WellFormed b) where
   first? : (n : ℕ) → ((k : ℕ) × First b.node (b.node n) k) ⊎ (((k : ℕ) × First b.node (b.node n) k) → ⊥)
@@ -56,7 +56,7 @@ module _ (b : Book) (wf : WellFormed b) where
 
   powers_known : PowersOf b.node powers
   unfolding powers
-  powers_known = record { takes_is = λ n. is_found (first? n); null_is = (nullable_decided b wf).test_is }
+  powers_known = record { takes_is = λ n. found_is (first? n); null_is = (nullable_decided b wf).test_is }
 
 module _ {b : Book} where
   -- records that are wrong are no tree, and wrong at one place

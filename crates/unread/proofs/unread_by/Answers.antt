@@ -11,4 +11,4 @@ returns-then-verdict-ne-DONE c =
 pub put_run-requires : goal.put_run-requires
 put_run-requires c =
     let left = c.judge-verdict.ensures in
-    (passed_judges left.judges c.if-verdict-ne-DONE.false, left.known c.if-verdict-ne-DONE.false)
+    record { judges = passed_judges left.judges c.if-verdict-ne-DONE.false; known = left.known c.if-verdict-ne-DONE.false }
