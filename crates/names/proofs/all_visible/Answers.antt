@@ -1,3 +1,4 @@
+use native.Mathlib.Omega.{arith}
 use mathlib.Core.Path.{sym}
 use Rattle.words.proofs.FirstBad.{searched_none, searched_more, searched_within, searched_every}
 use Rattle.names.proofs.Places.{too_low, too_high, is_visible}
@@ -10,17 +11,17 @@ pub returns-then-byte-lt33 : goal.returns-then-byte-lt33
 returns-then-byte-lt33 c =
     sym
     (searched_within _ c.loop-i.invariant c.loop-i-test.true
-    (too_low c.wide-byte.ensures.0 c.if-byte-lt33.true))
+    (too_low c.wide-byte.ensures.0 (omega arith)))
 
 pub returns-then-byte-gt126 : goal.returns-then-byte-gt126
 returns-then-byte-gt126 c =
     sym
     (searched_within _ c.loop-i.invariant c.loop-i-test.true
-    (too_high c.wide-byte.ensures.0 c.if-byte-gt126.true))
+    (too_high c.wide-byte.ensures.0 (omega arith)))
 
 pub loop-i-preserved : goal.loop-i-preserved
 loop-i-preserved c = searched_more _ c.loop-i.invariant c.loop-i-test.true
-    (is_visible c.wide-byte.ensures.0 c.if-byte-lt33.false c.if-byte-gt126.false)
+    (is_visible c.wide-byte.ensures.0 (omega arith) (omega arith))
 
 pub returns : goal.returns
 returns c = sym (searched_every _ c.loop-i.invariant c.loop-i-test.false)

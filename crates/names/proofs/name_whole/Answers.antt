@@ -11,6 +11,4 @@ pub returns-then-bytes-at-2 : goal.returns-then-bytes-at-2
 returns-then-bytes-at-2 c = sym (not_whole _ _ (λ w. omega (arith, w.within, c.wide-size.ensures.0, c.if-bytes-at-2.true)))
 
 pub returns : goal.returns
-returns c =
-    whole_by _ _ c.wide-size.ensures.0 c.if-size-lt1.false
-    c.if-size-gt16.false c.if-bytes-at-2.false c.all_visible.ensures
+returns c = whole_by _ _ c.wide-size.ensures.0 (omega arith) (omega arith) c.if-bytes-at-2.false c.all_visible.ensures
