@@ -9,7 +9,7 @@ use Rattle.verdict.specs.declared.Verdict.{Verdict}
 use Rattle.verdict.specs.Judges.{Judges}
 use Rattle.verdict.proofs.Passing.{passed, passed_judges}
 use Rattle.verdict.proofs.Some.{judges_some}
-use Rattle.running.proofs.Found.{marks, marks_are}
+use Rattle.running.proofs.Found.{marks_are}
 use Rattle.compiler.specs.declared.Compiled.{Compiled}
 use Rattle.compiler.specs.Compiles.{Compiles, refused, no_room, done, size_of}
 

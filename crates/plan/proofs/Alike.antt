@@ -1,6 +1,6 @@
 -- Plans that are alike but for what is due are judged alike, and agree below their count.
 use Prim.Native.Nat.{ℕ, zero, suc, ◌+◌, ◌*◌, ◌/◌, ◌%◌, ◌≤◌, ◌<◌}
-use native.Mathlib.Nat.{div-lt_iff_lt-mul, zero-add}
+use native.Mathlib.Nat.{div-lt_iff_lt-mul}
 use native.Mathlib.Omega.{arith}
 use mathlib.Core.Path.{◌≡◌, refl, sym, ap, ap₂, ◌∙◌}
 use mathlib.Core.Bool.{Bool, ◌&&◌, cond}
@@ -14,7 +14,6 @@ use Rattle.forms.specs.Forms.{contents_of, words_are, contents_are}
 use Rattle.book.specs.Book.{left_of, right_of, tag_of}
 use Rattle.book.specs.Decode.{type_of, fields_good, node_of, type_at, left_at, right_at, node_at, nodes, node_good}
 use Rattle.book.specs.Form.{DONE, judged, settings_good}
-use Rattle.book.specs.declared.Judged.{Judged}
 use Rattle.book.proofs.Decoded.{nodes_below}
 use Rattle.running.proofs.Agrees.{Agree}
 use Rattle.plan.specs.Form.{plan_sections, plan_settings_at, plan_nodes_at, rows_at, row_at, dues_at, plan_count, plan_kinds, plan_start, cell_at}

@@ -1,6 +1,6 @@
 -- What clashes at a node is told by the facts of the node's left and right, and tells whether the node has a conflict.
 use Prim.Native.Nat.{ℕ, ◌^◌, ◌≤◌, ◌<◌}
-use mathlib.Core.Path.{◌≡◌, refl, sym, ◌∙◌, ap, subst, subst₂}
+use mathlib.Core.Path.{◌≡◌, refl, sym, ◌∙◌, subst, subst₂}
 use mathlib.Core.Bool.{not, true≢false}
 use mathlib.Core.List.{List}
 use mathlib.Core.Logic.Iff

@@ -7,7 +7,6 @@ use mathlib.Core.List.{List}
 use native.Mathlib.Decide.{ℕ_discrete}
 use native.Mathlib.Omega.{arith}
 use borrow.Author.Tests.{not-true, not-false}
-use Rattle.book.specs.Book.{Book}
 use Rattle.book.specs.Decode.{nodes}
 use Rattle.book.specs.Form.{nodes_at, book_of}
 use Rattle.rules.specs.Facts.{marked?, IsMarked, AllMarked, Reached}

@@ -2,7 +2,7 @@
 use mathlib.Core.Path.{◌≡◌, refl, ap₂, fun_ext}
 use mathlib.Core.Bool.{Bool, true, false, not, ◌&&◌, cond}
 use mathlib.Core.List.{List, [], ◌∷◌, ◌++◌}
-use Prim.Native.Nat.{ℕ, ◌+◌, ◌<◌}
+use Prim.Native.Nat.{ℕ, ◌<◌}
 use borrow.Author.Tests.{lt-ltb}
 use Rattle.kinds.specs.Kinds.{has?}
 use Rattle.words.specs.Lists.{values_from}

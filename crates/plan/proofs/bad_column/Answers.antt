@@ -1,8 +1,8 @@
 use mathlib.Core.Path.{refl}
 use mathlib.Core.Bool.{Bool}
-use Prim.Native.Nat.{ℕ, ◌+◌, ◌-◌}
+use Prim.Native.Nat.{ℕ, ◌+◌}
 use native.Mathlib.Omega.{arith}
-use borrow.Author.Tests.{not-true, not-false, le-leb, lt-leb}
+use borrow.Author.Tests.{le-leb, lt-leb}
 use Rattle.words.proofs.FirstBad.{Searched, searched_none, searched_more, searched_bad, searched_all}
 use Rattle.plan.specs.Rows.{column_good, bad_column}
 use Rattle.plan.proofs.Columns.{kind_column, last_column, at_last}

@@ -2,7 +2,6 @@
 use mathlib.Core.Path.{◌≡◌, sym, ◌∙◌}
 use mathlib.Core.List.{List}
 use Prim.Native.Nat.{ℕ}
-use borrow.Author.Tests.{not-true, not-false}
 use Rattle.plan.specs.Form.{plan_count, plan_kinds, plan_good}
 use Rattle.plan.proofs.Laws.{formed, formed_size, short_bad, judged_form, judged_cells}
 use Rattle.plan.proofs.judge.Goals as goal

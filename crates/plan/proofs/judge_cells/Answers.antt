@@ -1,8 +1,8 @@
 use mathlib.Core.Path.{refl, sym, ◌∙◌}
-use Prim.Native.Nat.{◌+◌, ◌-◌, ◌≤◌}
+use Prim.Native.Nat.{◌+◌, ◌≤◌}
 use native.Mathlib.Omega.{arith}
 use borrow.Author.Rules.{rules}
-use borrow.Author.Tests.{not-true, not-false, ltb-false}
+use borrow.Author.Tests.{ltb-false}
 use Rattle.plan.specs.Form.{plan_size}
 use Rattle.plan.proofs.Rows.{rows_none, CellsOf, cells_of, rows_more, rows_bad, rows_all, row_inside}
 use Rattle.plan.proofs.judge_cells.Goals as goal

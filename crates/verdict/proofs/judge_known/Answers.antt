@@ -1,7 +1,6 @@
 -- `verdict::judge_known` meets its contract: each way out is a row of the table of answers. What the tests before it showed stands in the
 -- path to the place.
 use native.Mathlib.Omega.{arith}
-use borrow.Author.Tests.{not-true, not-false}
 use mathlib.Core.Path.{◌≡◌, sym, ap, ◌∙◌}
 use Rattle.kinds.specs.Kinds.{has?}
 use Rattle.rules.specs.declared.NodeFacts.{NodeFacts}

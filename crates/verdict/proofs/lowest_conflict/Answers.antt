@@ -1,4 +1,3 @@
-use Prim.Native.Nat.{◌-◌}
 use Rattle.verdict.proofs.Lowest.{passed_none, passed_more, passed_found, passed_all}
 use Rattle.verdict.proofs.lowest_conflict.Goals as goal
 
