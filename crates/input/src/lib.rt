@@ -1,14 +1,19 @@
 // The bytes that the programs work on, from a reader.
 #![tactic(auto)]
 
-ghost use Rattle.std.specs.Prelude.{◌≤◌, length, IfOk};
+ghost use Rattle.std.specs.Prelude.{◌<◌, length, take, IfOk};
+ghost use Rattle.std.specs.Io.{ReadsAtMost};
+ghost use Rattle.std.specs.Io.KnownBytes.{Consumes, IsAtEnd};
 
 use std::io;
 use std::io::Read;
 
-// Reads until the buffer is full or the input ends, and answers how many bytes it put at the buffer's start.
+// Reads until the buffer is full or the input ends, and answers how many bytes it put at the buffer's start: those that
+// the reader gave, and all of them where the buffer isn't full.
 pub fn fill<R: Read>(reader: &mut R, buffer: &mut [u8]) -> io::Result<usize>
-    ensures { IfOk result (λ size. size ≤ length buffer.new) }
+    ensures within { ReadsAtMost result buffer.new }
+    ensures bytes { IfOk result (λ size. Consumes (R.Read.remaining reader.old) (R.Read.remaining reader.new) (take size buffer.new)) }
+    ensures end { IfOk result (λ size. size < length buffer.new → IsAtEnd (R.Read.remaining reader.new)) }
 {
     let mut size = 0;
     while size < buffer.len() {

@@ -1,10 +1,12 @@
--- `drumbook_close` meets its contract: it steps the drum of its number and puts it back, where there is one.
+-- `drumbook_close` meets its contract: the drum of its number is called and stored, or no drum is touched.
 use Rattle.drums.specs.Drums.{close_of}
-use Rattle.board.proofs.Lent.{called_lent, called_absent}
+use Rattle.board.proofs.Calls.{call_stored, call_absent}
 use Rattle.drumbook.proofs.drumbook_close.Goals as goal
 
 pub returns-then-at-drums : goal.returns-then-at-drums
-returns-then-at-drums c = called_lent close_of c.args.plan.now c.args.drums.now c.args.number 0 c.if-at-drums.true c.close-closed.ensures
+returns-then-at-drums c =
+    call_stored close_of c.args.plan.now c.args.drums.now c.args.number 0 _ c.close-closed.result c.if-at-drums.true c.close-closed.ensures
 
 pub returns-else-at-drums : goal.returns-else-at-drums
-returns-else-at-drums c = called_absent close_of c.args.plan.now c.args.drums.now c.args.number 0 c.if-at-drums.false c.absent.ensures
+returns-else-at-drums c =
+    call_absent close_of c.args.plan.now c.args.drums.now c.args.number 0 c.absent.result c.if-at-drums.false c.absent.ensures

@@ -1,15 +1,15 @@
 -- `sheet::main` meets its contract: its buffers suffice, so there is something to write for every input.
-use borrow.Author.Rules.{rules}
-use borrow.Author.Tests.{lt-ltb}
+use Rattle.std.proofs.Common.{rules, arith}
 use Prim.Native.Nat.{◌≤◌, ◌<◌}
 use mathlib.Core.Path.{sym}
 use lib.ListN.{length}
 use lib.Seq.{length-take-le}
 use Rattle.shown.proofs.Buffers.{answers_some}
 use Rattle.sheet.proofs.main.Goals as goal
+use Rattle.sheet.proofs.main.Goals.{After-show-count}
 
 -- what `show` wrote
-written : (c : goal.After-show-count) → (0 < c.show-count.result) × (c.show-count.result ≤ length c.show-count.new.1.1.0)
+written : (c : After-show-count) → (0 < c.show-count.result) × (c.show-count.result ≤ length c.show-count.new.out)
 written c =
     answers_some _ _ _ _ _
     (record {
@@ -21,8 +21,9 @@ written c =
     })
     c.show-count.ensures
 
-pub expect-requires : goal.expect-requires
-expect-requires c = lt-ltb _ _ (written (goal.at.expect-requires c).After-show-count).0
+pub prove-unreachable-requires : goal.prove-unreachable-requires
+prove-unreachable-requires c =
+    let some = (written (goal.at.prove-unreachable-requires c).After-show-count).0 in omega arith
 
 pub slice_bounds-out-end : goal.slice_bounds-out-end
 slice_bounds-out-end c = (written (goal.at.slice_bounds-out-end c).After-show-count).1
