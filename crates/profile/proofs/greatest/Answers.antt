@@ -4,4 +4,4 @@ use Rattle.profile.proofs.Rows.{table-blank}
 use Rattle.profile.proofs.greatest.Goals as goal
 
 pub measure_by-requires : goal.measure_by-requires
-measure_by-requires c = ((λ good. table-blank _ good), blank-zeros 512)
+measure_by-requires c = record { blank = λ good. table-blank _ good; blank_2 = blank-zeros 512 }

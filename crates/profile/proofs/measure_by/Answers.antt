@@ -8,7 +8,9 @@ returns-then-verdict-ne-DONE c = refused c.judge-verdict.ensures.judges c.if-ver
 
 pub measure-requires : goal.measure-requires
 measure-requires c =
-    let left = c.judge-verdict.ensures in (
-      passed_judges left.judges c.if-verdict-ne-DONE.false,
-      (left.known c.if-verdict-ne-DONE.false, c.requires.1),
-    )
+    let left = c.judge-verdict.ensures in
+    record {
+      judges = passed_judges left.judges c.if-verdict-ne-DONE.false;
+      known = left.known c.if-verdict-ne-DONE.false;
+      blank = c.requires.blank_2;
+    }

@@ -6,20 +6,20 @@ use Rattle.profile.proofs.visit.Goals as goal
 pub node_in-node-requires : goal.node_in-node-requires
 node_in-node-requires c =
     let pre = c.requires in
-    let good = pre.0.good in
-    (good.form, rw good.count_is at pre.1.0)
+    let good = pre.known.good in
+    (good.form, rw good.count_is at pre.n_lt_count)
 
 pub side_at-left-requires : goal.side_at-left-requires
 side_at-left-requires c =
     let pre = c.requires in
-    let inside = left_read pre.0 pre.1.0 c.node_in-node.ensures c.left_from.ensures in
-    (omega (arith, inside, pre.0.long), omega (arith, inside, pre.1.1))
+    let inside = left_read pre.known pre.n_lt_count c.node_in-node.ensures c.left_from.ensures in
+    record { n_in_bounds = omega (arith, inside, pre.known.long); n_in_bounds_2 = omega (arith, inside, pre.count_in_bounds) }
 
 pub side_at-right-requires : goal.side_at-right-requires
 side_at-right-requires c =
     let pre = c.requires in
-    let inside = right_read pre.0 pre.1.0 c.node_in-node.ensures c.right_from.ensures in
-    (omega (arith, inside, pre.0.long), omega (arith, inside, pre.1.1))
+    let inside = right_read pre.known pre.n_lt_count c.node_in-node.ensures c.right_from.ensures in
+    record { n_in_bounds = omega (arith, inside, pre.known.long); n_in_bounds_2 = omega (arith, inside, pre.count_in_bounds) }
 
 pub returns : goal.returns
 returns c =

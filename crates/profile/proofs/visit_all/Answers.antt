@@ -12,15 +12,15 @@ loop-i-init c = turning_none _
 pub visit-changed-requires : goal.visit-changed-requires
 visit-changed-requires c =
     let pre = c.requires in
-    (pre.0, (c.loop-i-test.true, omega (arith, c.loop-i.invariant.grown.long, pre.1.0)))
+    record { known = pre.known; n_lt_count = c.loop-i-test.true; count_in_bounds = omega (arith, c.loop-i.invariant.grown.long, pre.count_in_bounds) }
 
 pub loop-i-preserved : goal.loop-i-preserved
 loop-i-preserved c =
     let pre = c.requires in
     let turning = c.loop-i.invariant in
     turning_more turning refl
-    (raised_visited pre.0 (grown_sound turning.grown pre.1.1) c.loop-i-test.true
-    (omega (arith, turning.grown.long, pre.1.0))
+    (raised_visited pre.known (grown_sound turning.grown pre.sound) c.loop-i-test.true
+    (omega (arith, turning.grown.long, pre.count_in_bounds))
     c.visit-changed.ensures)
 
 pub shape_of-weights : goal.shape_of-weights

@@ -6,13 +6,13 @@ use Rattle.profile.proofs.Weighing.{turned_weighed}
 use Rattle.profile.proofs.weigh.Goals as goal
 
 pub loop-init : goal.loop-init
-loop-init c = settling_none (blank-tells c.requires.1)
+loop-init c = settling_none (blank-tells c.requires.blank)
 
 pub visit_all-requires : goal.visit_all-requires
 visit_all-requires c =
     let pre = c.requires in
     let settling = c.loop.invariant in
-    (pre.0, (omega (arith, pre.1.long, settling.long), settling.sound))
+    record { known = pre.known; count_in_bounds = omega (arith, pre.blank.long, settling.long); sound = settling.sound }
 
 pub loop-smaller : goal.loop-smaller
 loop-smaller c =
@@ -30,4 +30,4 @@ shape_of-weights c =
 pub returns : goal.returns
 returns c =
     let pre = c.requires in
-    turned_weighed pre.0 c.loop.invariant.sound c.visit_all.ensures c.loop-test.false
+    turned_weighed pre.known c.loop.invariant.sound c.visit_all.ensures c.loop-test.false
