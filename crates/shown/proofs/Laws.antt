@@ -7,7 +7,7 @@ use mathlib.Core.Bool.{◌||◌, cond}
 use mathlib.Core.List.{List, [], ◌++◌}
 use lib.Dec.{eqb}
 use lib.ListN.{length, take, length-append}
-use Rattle.written.specs.Written.{Out, taken}
+use Rattle.written.specs.Written.{Out, taken, OUT-ROOM}
 use Rattle.book.specs.declared.Judged.{Judged}
 use Rattle.book.specs.Form.{DONE, form_of, book_of}
 use Rattle.book.proofs.Decoded.{formed, well_formed}
@@ -20,7 +20,7 @@ use Rattle.syntax.specs.Machine.{name_due, wrong, read_sheet}
 use Rattle.syntax.proofs.Outcomes.{parts_wrong, lacks_wrong}
 use Rattle.making.specs.Makes.{Makes}
 use Rattle.making.specs.Made.{NoSheetAt}
-use Rattle.making.proofs.Promise.{book_made, book-named, sheet_refused_at}
+use Rattle.making.proofs.Promise.{book_made, book-named, make_answers, sheet_refused_at}
 use Rattle.compiler.specs.declared.Compiled.{Compiled}
 use Rattle.compiler.specs.Compiles.{PLAN-ROOM, Compiles, refused, no_room, done}
 use Rattle.compiler.proofs.Promise.{answer_listed, size-most}
@@ -52,6 +52,16 @@ module _ (sheet : List ℕ) {o : Out} (makes : Makes sheet longest_book o) where
   -- it is within its buffer
   pub made_within : o.answer.number ≡ DONE → o.answer.size ≤ longest_book
   made_within is = (book_made sheet longest_book makes is).fits
+
+  -- its number is small
+  pub made_small : o.answer.number < 2 ^ 64
+  made_small = go (make_answers sheet longest_book makes).listed
+    where
+      go : (o.answer.number ≡ DONE) ⊎ ((o.answer.number ≡ OUT-ROOM) ⊎ ((SHEET ≤ o.answer.number) × (o.answer.number ≤ KINDLESS)))
+          → o.answer.number < 2 ^ 64
+      go (inl is) = omega arith
+      go (inr (inl is)) = omega arith
+      go (inr (inr (least, most))) = omega arith
 
   -- 26 has the place where the sheet goes wrong
   pub made_wrong : Wrong sheet o.answer.number o.answer.place

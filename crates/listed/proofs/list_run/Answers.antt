@@ -5,7 +5,7 @@ use Rattle.listed.proofs.list_run.Goals as goal
 
 pub put_reading-requires : goal.put_reading-requires
 put_reading-requires c =
-    let kept = c.read-answer.auto.1.1.1.0 in
+    let kept = c.read-answer.auto.tree in
     record {
       line = omega arith;
       lines = omega (arith, kept, c.requires.records, c.requires.output);

@@ -8,6 +8,6 @@ unfolding refusal_line
 returns c =
     adds_then
     (adds_then
-    (adds_then (adds_then c.add_bytes.ensures c.add_spaced-first.ensures) c.add_where_placed-second.ensures)
+    (adds_then (adds_then c.add_bytes-word.ensures c.add_spaced-first.ensures) c.add_where_placed-second.ensures)
     c.add_reason-third.ensures)
     c.add_bytes.ensures

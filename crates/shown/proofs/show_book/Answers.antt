@@ -13,7 +13,7 @@ returns c =
     let fits = text_short c.args.sheet.now c.requires.short c.compile-answer.result c.place-from.result.place named small in
     record {
       answer = c.compile-answer.result;
-      plan = c.compile-answer.new.1.0;
+      plan = c.compile-answer.new.plan;
       from = c.place-from.result;
       compiled = rw c.requires.cells at c.compile-answer.ensures;
       placed = c.place-from.ensures;
