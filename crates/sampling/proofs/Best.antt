@@ -1,18 +1,18 @@
 -- Best runs: there is at most one, those of the sides make that of a node, and the weight of one is the least.
-use Prim.Native.Nat.{ℕ, zero, suc, ◌+◌, ◌*◌, ◌/◌, ◌%◌, ◌≤◌, ◌<◌}
+use Prim.Native.Nat.{ℕ, ◌+◌, ◌*◌, ◌<◌}
 use native.Mathlib.Omega.{arith}
-use mathlib.Core.Path.{◌≡◌, refl, sym, ap, subst}
+use mathlib.Core.Path.{◌≡◌, sym, subst}
 use mathlib.Core.List.{List, [], ◌∷◌, ◌++◌}
 use lib.ListN.{length}
 use Rattle.book.specs.declared.Node.{Node}
 use Rattle.book.specs.declared.Node.TheVariants.{Token, Either, Then, Tagged, Ref}
 use Rattle.grammar.specs.Rules.{First, Nullable}
-use Rattle.grammar.specs.Derivations.{Derives, d_empty, d_token, d_left, d_right, d_then, d_tagged, d_ref}
+use Rattle.grammar.specs.Derivations.{Derives, d_token, d_left, d_right, d_then, d_tagged, d_ref}
 use Rattle.grammar.proofs.Facts.{derives_opens}
-use Rattle.weights.specs.Weight.{head_of, weight_of, CAP, weight_at, Lightest, Weights}
+use Rattle.weights.specs.Weight.{weight_of, CAP, weight_at, Lightest, Weights}
 use Rattle.weights.proofs.Weighing.{Kinded, head_small}
 use Rattle.weights.proofs.Lowering.{weight_none_lighter, weight_lightest}
-use Rattle.sampling.specs.Sample.{NoHigher, ends, same, Best}
+use Rattle.sampling.specs.Sample.{ends, same, Best}
 use Rattle.sampling.proofs.Order.{no_higher_head, no_higher_both, Before, lighter_before, before-append, empty_before}
 
 -- two best runs of a node are the same

@@ -1,5 +1,5 @@
 -- Laws of the order of runs: it is kept by runs one after the other, it has one least run, and a lighter run comes before.
-use Prim.Native.Nat.{ℕ, ◌+◌, ◌*◌, ◌≤◌, ◌<◌}
+use Prim.Native.Nat.{ℕ, ◌≤◌, ◌<◌}
 use native.Mathlib.Omega.{arith}
 use mathlib.Core.Path.{◌≡◌, refl, ap}
 use mathlib.Core.List.{List, [], ◌∷◌, ◌++◌}
@@ -20,11 +20,11 @@ no_higher_append us vs (lower l) g = lower l
 -- two runs of which neither is higher are the same
 pub no_higher_both : {xs ys : List ℕ} → NoHigher xs ys → NoHigher ys xs → xs ≡ ys
 no_higher_both ends g = refl
-no_higher_both (same {k = k} h) g = ap (λ (zs : List ℕ). k ∷ zs) (no_higher_both h (tail g))
+no_higher_both (same {k = k} h) g = ap (λ (zs : List ℕ). k ∷ zs) (no_higher_both h (tail g (omega arith)))
   where
-    tail : {k : ℕ} {xs ys : List ℕ} → NoHigher (k ∷ xs) (k ∷ ys) → NoHigher xs ys
-    tail (same h) = h
-    tail (lower l) = absurd (omega arith)
+    tail : {j k : ℕ} {xs ys : List ℕ} → NoHigher (j ∷ xs) (k ∷ ys) → k ≤ j → NoHigher xs ys
+    tail (same h) few = h
+    tail (lower l) few = absurd (omega arith)
 no_higher_both (lower l) g = absurd (omega (arith, back g, l))
   where
     back : {j k : ℕ} {xs ys : List ℕ} → NoHigher (k ∷ ys) (j ∷ xs) → k ≤ j

@@ -5,14 +5,11 @@ use native.Mathlib.Omega.{arith}
 use native.Mathlib.Decide.{dec_lt}
 use borrow.Author.Tests.{lt-ltb, le-ltb}
 use mathlib.Core.Path.{◌≡◌, refl, sym, ap, ◌∙◌, subst}
-use mathlib.Core.Bool.{Bool, cond}
 use mathlib.Core.Logic.{⊎_elim}
 use mathlib.Core.List.{List, [], ◌∷◌, ◌++◌, append-nil}
-use lib.Dec.{ltb}
-use lib.ListN.{length}
 use Rattle.book.specs.Book.{Book, WellFormed}
 use Rattle.book.specs.declared.Node.{Node}
-use Rattle.book.specs.declared.Node.TheVariants.{Fail, Token, Either, Then, Tagged, Ref}
+use Rattle.book.specs.declared.Node.TheVariants.{Fail, Either, Then, Tagged, Ref}
 use Rattle.grammar.specs.Rules.{First, f_token, f_left, f_right, f_hold, f_skip, f_tagged, f_ref, Conflict, c_first, c_follow}
 use Rattle.grammar.specs.Passing.{Passes}
 use Rattle.grammar.proofs.Facts.{nullable_first_snf, nullable_derives_empty}
@@ -22,12 +19,12 @@ use Rattle.meaning.proofs.Walk.{size}
 use Rattle.meaning.proofs.Size.{size_below, first_below}
 use Rattle.lengths.specs.Falling.{smaller}
 use Rattle.lengths.proofs.Cutting.{smaller-left, smaller_one}
-use Rattle.weights.specs.Weight.{weight_of, CAP, weight_at, Weights}
+use Rattle.weights.specs.Weight.{CAP, weight_at, Weights}
 use Rattle.weights.specs.Falling.{joined, weight_by}
 use Rattle.weights.proofs.Weighing.{Kinded, joined_light, joined_heavy}
 use Rattle.weights.proofs.Lowering.{weight_none_lighter, weight_by_sides}
 use Rattle.sampling.specs.Sample.{Best, Sample}
-use Rattle.sampling.specs.Parts.{events_of, due_before, parts_on, Lightens, leaves_none, leaves_one, leaves_two, Row, row_none}
+use Rattle.sampling.specs.Parts.{events_of, due_before, parts_on, leaves_none, leaves_one, leaves_two, Row, row_none}
 use Rattle.sampling.proofs.Rows.{row_append, row_one}
 use Rattle.sampling.proofs.Best.{best_token, best_then, best_tagged, best_ref, best_left, best_right, best_empty}
 use Rattle.sampling.proofs.Best.{empty_nullable, weight_first}
