@@ -30,10 +30,9 @@ loop-size-preserved g c =
     let put = put_mid at room c.loop-size.buffer c.read.new.buf in
     let within = c.loop-size.invariant.0 in
     let part = put_there at room c.in_ok-got.got c.loop-size.buffer c.read.new.buf within c.in_ok-got.ensures.bound.0 in
-    let joined = taken_on at c.in_ok-got.got c.loop-size.buffer put (take-put_mid_below _ _ _ _ _ (le_refl _) within) in
-    (
+    let joined = taken_on at c.in_ok-got.got c.loop-size.buffer put (take-put_mid_below _ _ _ _ _ (le_refl _) within) in (
       search rules,
       search rules,
       subst (Consumes _ _) (ap (λ (l : List ℕ). take at c.loop-size.buffer ++ l) (sym part) ∙ joined)
-      (Consumes-trans _ _ _ _ _ c.loop-size.invariant.2 c.in_ok-got.ensures.bytes.0),
+          (Consumes-trans _ _ _ _ _ c.loop-size.invariant.2 c.in_ok-got.ensures.bytes.0),
     )
