@@ -1,6 +1,4 @@
-use Prim.Native.Nat.{◌-◌}
 use mathlib.Core.Path.{refl}
-use mathlib.Core.Bool.{false}
 use native.Mathlib.Omega.{arith}
 use Rattle.rules.proofs.Growing.{turning_none, turning_more, turning_end, grown_sound}
 use Rattle.profile.proofs.Weighing.{raised_visited}

@@ -1,4 +1,3 @@
-use mathlib.Core.Bool.{true}
 use native.Mathlib.Omega.{arith}
 use Rattle.rules.proofs.Growing.{settling_none, settling_more}
 use Rattle.profile.proofs.Raising.{blank-tells, weights_less}
