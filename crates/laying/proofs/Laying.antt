@@ -1,5 +1,5 @@
 -- Parts in a list of numbers, and the writing of a sample by them: what is written and what is due make the run.
-use Prim.Native.Nat.{ℕ, zero, suc, ◌+◌, ◌*◌, ◌-◌, ◌/◌, ◌≤◌, ◌<◌}
+use Prim.Native.Nat.{ℕ, zero, suc, ◌+◌, ◌-◌, ◌/◌, ◌≤◌, ◌<◌}
 use native.Mathlib.Omega.{arith}
 use native.Mathlib.Numerals.{add-one}
 use borrow.Author.Tests.{lt-ltb, le-ltb}
@@ -13,15 +13,15 @@ use Rattle.words.specs.Words.{zeros}
 use Rattle.words.proofs.Stored.{sets_then, sets-zeros}
 use Rattle.book.specs.declared.Node.{Node}
 use Rattle.book.specs.Book.{Book, Proper, fail_is, empty_is, token_is, either_is, then_is, tagged_is, ref_is}
-use Rattle.book.specs.Form.{DONE, form_of, book_of}
+use Rattle.book.specs.Form.{book_of}
 use Rattle.rules.specs.Step.{left_from, right_from, kind_of}
-use Rattle.weights.specs.Weight.{weight_of, weight_at}
+use Rattle.weights.specs.Weight.{weight_at}
 use Rattle.weights.proofs.Weighing.{head_small}
 use Rattle.sampling.specs.Sample.{Sample}
 use Rattle.sampling.specs.Parts.{events_of, due_before, parts_on, sum_over, visits, Fits, fits_none, Row, row_none}
 use Rattle.sampling.proofs.Rows.{Visited, row_visit, fits_one, fits_visit, fits_few}
 use Rattle.sampling.proofs.Best.{best_weight}
-use Rattle.sampling.proofs.Writing.{DEPTH, Due, sample_due, book_kinded}
+use Rattle.sampling.proofs.Writing.{DEPTH, sample_due, book_kinded}
 use Rattle.laying.specs.Stacked.{stacked, Pushed, Ready, Wrote}
 
 -- ---- parts in a list

@@ -1,7 +1,5 @@
 -- The parts that are due, in a list of numbers, and what the functions that write a sample leave.
-use Rattle.std.specs.Prelude.{ℕ, zero, suc, ◌+◌, ◌/◌, ◌≤◌, ◌<◌, ◌≡◌, List, [], ◌∷◌, length, get_or}
-use Rattle.words.specs.Words.{zeros}
-use Rattle.book.specs.Book.{Book}
+use Rattle.std.specs.Prelude.{ℕ, zero, suc, ◌/◌, ◌≤◌, ◌<◌, ◌≡◌, List, [], ◌∷◌, length, get_or}
 use Rattle.book.specs.Form.{DONE, form_of, book_of}
 use Rattle.grammar.specs.Passing.{Passes}
 use Rattle.weights.specs.Weight.{CAP, weight_at, Weights}

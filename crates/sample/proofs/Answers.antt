@@ -1,10 +1,9 @@
 -- Each test of asking for a sample, and the answer that it gives.
-use Prim.Native.Nat.{ℕ, ◌+◌, ◌-◌, ◌*◌, ◌/◌, ◌≤◌, ◌<◌}
+use Prim.Native.Nat.{ℕ, ◌/◌, ◌≤◌, ◌<◌}
 use native.Mathlib.Omega.{arith}
 use mathlib.Core.Path.{◌≡◌, refl, sym, ap, ◌∙◌, subst}
-use mathlib.Core.Logic.{◌≢◌}
-use mathlib.Core.List.{List, ◌++◌}
-use lib.ListN.{length, replicate, length-replicate}
+use mathlib.Core.List.{List}
+use lib.ListN.{length}
 use Rattle.words.specs.Words.{zeros}
 use Rattle.book.specs.Decode.{nodes, GoodNodes}
 use Rattle.book.specs.Form.{DONE, form_of, nodes_at, book_of}
@@ -14,20 +13,18 @@ use Rattle.grammar.specs.Passing.{Passes}
 use Rattle.rules.specs.Facts.{table_size}
 use Rattle.rules.specs.Growth.{Blank}
 use Rattle.rules.proofs.Growing.{blank-zeros, blank_less}
-use Rattle.verdict.specs.declared.Verdict.{Verdict}
 use Rattle.verdict.specs.Judges.{judgement, Judges}
 use Rattle.verdict.specs.Conflicts.{GoodBook}
 use Rattle.verdict.proofs.Books.{nodes_good, count_small, look_up}
 use Rattle.verdict.proofs.Passing.{passed}
 use Rattle.written.specs.declared.Written.{Written}
 use Rattle.written.specs.Written.{written, with_zeros, refused_with, Hands}
-use Rattle.weights.specs.Weight.{weight_of, CAP, weight_at, Weights}
+use Rattle.weights.specs.Weight.{CAP, weight_at, Weights}
 use Rattle.weights.specs.Falling.{Fresh}
 use Rattle.weights.proofs.Weighing.{head_small}
 use Rattle.weights.proofs.Lowering.{fresh_less, weight_none_lighter}
-use Rattle.sampling.specs.Sample.{Sample}
-use Rattle.sampling.proofs.Writing.{Due, sample_due, book_kinded}
-use Rattle.sample.specs.Samples.{RUN-LONG, RUN-ROOM, out, Samples, refused, too_long, no_room, done}
+use Rattle.sampling.proofs.Writing.{sample_due, book_kinded}
+use Rattle.sample.specs.Samples.{RUN-LONG, RUN-ROOM, out, Samples, too_long, no_room, done}
 use Rattle.laying.specs.Stacked.{Ready, Wrote}
 use Rattle.laying.proofs.Laying.{sample_length}
 

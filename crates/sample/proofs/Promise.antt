@@ -1,19 +1,18 @@
 -- What is so of every answer to asking for a sample, from `Samples` alone.
 use Prim.Native.Nat.{ℕ, zero, suc, ◌≤◌, ◌<◌}
 use native.Mathlib.Omega.{arith}
-use mathlib.Core.Path.{◌≡◌, refl, sym, ap, subst, ◌∙◌}
+use mathlib.Core.Path.{◌≡◌, refl, sym, ap, subst}
 use mathlib.Core.Logic.{◌↔◌, ◌≢◌, ◌⊎◌, inl, inr, ⊎_elim}
 use mathlib.Core.List.{List, [], ◌∷◌}
 use lib.ListN.{length, take, get_or}
-use Rattle.names.specs.Names.{NAMES}
 use Rattle.book.specs.Book.{Book}
-use Rattle.book.specs.Form.{DONE, form_of, book_of}
+use Rattle.book.specs.Form.{DONE, book_of}
 use Rattle.book.proofs.Laws.{form_listed}
 use Rattle.grammar.specs.Derivations.{Lawful}
 use Rattle.verdict.specs.declared.Verdict.{Verdict}
 use Rattle.verdict.specs.Judges.{judgement, Judges, malformed, unused, barren, conflict, passes}
 use Rattle.verdict.proofs.Unique.{judges_unique}
-use Rattle.written.specs.Written.{Out, refused_with, handed_over, handed, taken, Settled}
+use Rattle.written.specs.Written.{Out, refused_with, handed_over, taken, Settled}
 use Rattle.written.proofs.Handing.{room_enough_lem, refused_settles, handed_settles, taken_over}
 use Rattle.sampling.specs.Sample.{NoHigher, ends, same, lower, Sample}
 use Rattle.sampling.proofs.Best.{best_unique}

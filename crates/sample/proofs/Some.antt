@@ -14,7 +14,7 @@ use Rattle.written.specs.Written.{Out}
 use Rattle.weights.specs.Weight.{CAP, weight_at}
 use Rattle.weights.proofs.Deciding.{LeastWeights, least_weights}
 use Rattle.sampling.specs.Sample.{Sample}
-use Rattle.sampling.proofs.Writing.{Due, sample_due, book_kinded}
+use Rattle.sampling.proofs.Writing.{sample_due, book_kinded}
 use Rattle.sample.specs.Samples.{Samples, refused, too_long, no_room, done}
 use Rattle.sample.proofs.Answers.{answered_long}
 

@@ -5,7 +5,7 @@ use mathlib.Core.Path.{◌≡◌, refl, ap}
 use mathlib.Core.Logic.{◌≢◌}
 use mathlib.Core.List.{List}
 use lib.ListN.{length}
-use Rattle.book.specs.Form.{DONE, book_of}
+use Rattle.book.specs.Form.{DONE}
 use Rattle.verdict.specs.declared.Verdict.{Verdict}
 use Rattle.verdict.specs.Judges.{judgement, Judges}
 use Rattle.verdict.proofs.Unique.{judges_unique}

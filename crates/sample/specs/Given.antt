@@ -2,7 +2,7 @@
 use Rattle.std.specs.Prelude.{ℕ, ◌≤◌, ◌<◌, ◌≡◌, ◌≢◌, ◌⊎◌, List, length, take, get_or}
 use Rattle.book.specs.Book.{Book}
 use Rattle.grammar.specs.Derivations.{Lawful}
-use Rattle.written.specs.Written.{Out, taken, Settled}
+use Rattle.written.specs.Written.{Out, Settled}
 use Rattle.sample.specs.Samples.{RUN-LONG, RUN-ROOM}
 
 -- the answer is 0, one of the book's own refusals, 24 or 25, and the buffer is left as it should be

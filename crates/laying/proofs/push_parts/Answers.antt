@@ -12,27 +12,28 @@ use Rattle.laying.proofs.push_parts.Goals as goal
 pub lighter-requires : goal.lighter-requires
 lighter-requires c =
     let pre = c.requires in
-    (omega (arith, pre.1.0, ap (left_from 0) c.in-Either.is), omega (arith, pre.1.1, ap (right_from 0) c.in-Either.is))
+    (omega (arith, pre.node_in_bounds.0, ap (left_from 0) c.in-Either.is), omega (arith, pre.node_in_bounds.1, ap (right_from 0) c.in-Either.is))
 
 pub push_then-requires : goal.push_then-requires
 push_then-requires c =
-    let pre = c.requires in (
-      pre.0,
-      (
-        omega (arith, pre.1.0, ap (left_from 0) c.in-Then.is),
-        omega (arith, pre.1.1, ap (right_from 0) c.in-Then.is),
-      ),
-    )
+    let pre = c.requires in
+    record {
+      held_in_bounds = pre.held_in_bounds;
+      l_in_bounds = (
+        omega (arith, pre.node_in_bounds.0, ap (left_from 0) c.in-Then.is),
+        omega (arith, pre.node_in_bounds.1, ap (right_from 0) c.in-Then.is),
+      );
+    }
 
 pub push-requires-in-Tagged : goal.push-requires-in-Tagged
 push-requires-in-Tagged c =
     let pre = c.requires in
-    (omega (arith, pre.0.0), omega (arith, pre.0.1, pre.1.0, ap (left_from 0) c.in-Tagged.is))
+    (omega (arith, pre.held_in_bounds.0), omega (arith, pre.held_in_bounds.1, pre.node_in_bounds.0, ap (left_from 0) c.in-Tagged.is))
 
 pub push-requires-in-Ref : goal.push-requires-in-Ref
 push-requires-in-Ref c =
     let pre = c.requires in
-    (omega (arith, pre.0.0), omega (arith, pre.0.1, pre.1.0, ap (left_from 0) c.in-Ref.is))
+    (omega (arith, pre.held_in_bounds.0), omega (arith, pre.held_in_bounds.1, pre.node_in_bounds.0, ap (left_from 0) c.in-Ref.is))
 
 pub returns-in-Fail : goal.returns-in-Fail
 unfolding parts_on

@@ -8,4 +8,4 @@ use Rattle.laying.proofs.push_then.Goals as goal
 pub returns : goal.returns
 returns c =
     pushed_then (due_before (weight_at c.args.weights.now c.args.l) c.args.l)
-    c.push_due.ensures c.push_due.ensures (omega arith)
+    c.push_due-rest.ensures c.push_due.ensures (omega arith)

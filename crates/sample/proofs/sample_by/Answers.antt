@@ -15,4 +15,7 @@ returns-then-verdict-ne-DONE c =
 pub weigh-requires : goal.weigh-requires
 weigh-requires c =
     let judged = c.judge-verdict.ensures in
-    (passed_judges judged.judges c.if-verdict-ne-DONE.false, (fresh_caps 512, length-replicate {A = ℕ} 512 4194304))
+    record {
+      judges = passed_judges judged.judges c.if-verdict-ne-DONE.false;
+      fresh = (fresh_caps 512, length-replicate {A = ℕ} 512 4194304);
+    }
