@@ -3,6 +3,7 @@ use Prim.Native.Nat.{ℕ, ◌≤◌, ◌<◌}
 use native.Mathlib.Omega.{arith}
 use mathlib.Core.Path.{◌≡◌, refl, sym, subst}
 use mathlib.Core.List.{List}
+use mathlib.Core.Logic.{inl}
 use lib.Dec.{ltb}
 use lib.ListN.{get_or}
 use borrow.Author.Tests.{ltb-true, lt-ltb}
@@ -24,7 +25,7 @@ use Rattle.depths.proofs.Numbers.{greatest_by, greatest_none}
 use Rattle.running.proofs.Found.{marks, marks_are}
 use Rattle.profile.specs.declared.Depth.{Depth}
 use Rattle.profile.specs.Weights.{MOST, Weighed}
-use Rattle.profile.specs.Profiles.{UNBOUNDED, depth, Measures, refused, unbounded, measured, Profiles, fits}
+use Rattle.profile.specs.Profiles.{UNBOUNDED, SLOTS, depth, Measures, refused, unbounded, measured, Profiles, no_profile, fits}
 
 -- a table of zeros for any book of good form
 pub table-blank : (bytes : List ℕ) → (form_of bytes).number ≡ DONE → Blank (table_size (book_of bytes).count) (zeros 2048)
@@ -84,6 +85,10 @@ module _ {bytes list : List ℕ} {count start : ℕ} (judges : Judges bytes (jud
 -- ---- profiles
 
 module _ {bytes : List ℕ} where
+  -- fewer slots than one are no profile
+  pub none_few : {slots : ℕ} → slots < 1 → Profiles bytes slots (depth SLOTS 0 0)
+  none_few few = no_profile (inl few)
+
   -- where measuring is done, there is a number
   pub measured_done : {d : Depth} → Measures bytes d → d.number ≡ DONE → Measures bytes (depth DONE 0 d.held)
   measured_done (refused judges bad) is = absurd (bad is)

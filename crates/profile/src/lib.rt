@@ -220,6 +220,7 @@ pub fn greatest(book: &[u8]) -> Depth
 
 // What a profile of so many slots says of a book, for any bytes and any slots: SLOTS, what is refused anyhow, DEEPER,
 // or done with the greatest number of parts held.
+#[tactic(auto, using(crate::proofs::Rows::none_few))]
 pub fn profile(book: &[u8], slots: u32) -> Depth
     ensures { Profiles book.now slots result }
 {

@@ -10,8 +10,8 @@ count_in-count-requires c = c.requires.known.good.form
 pub weigh-requires : goal.weigh-requires
 weigh-requires c =
     let pre = c.requires in
-    let told = weighable c.count_in-count.ensures pre.known pre.blank in
-    record { known = told.0; blank = told.1 }
+    let (known, blank) = weighable c.count_in-count.ensures pre.known pre.blank in
+    record { known = known; blank = blank }
 
 pub start_in-requires : goal.start_in-requires
 start_in-requires c = c.requires.known.good.form

@@ -13,13 +13,19 @@ pub side_at-left-requires : goal.side_at-left-requires
 side_at-left-requires c =
     let pre = c.requires in
     let inside = left_read pre.known pre.n_lt_count c.node_in-node.ensures c.left_from.ensures in
-    record { n_in_bounds = omega (arith, inside, pre.known.long); n_in_bounds_2 = omega (arith, inside, pre.count_in_bounds) }
+    record {
+      n_in_bounds = omega (arith, inside, pre.known.long);
+      n_in_bounds_2 = omega (arith, inside, pre.count_in_bounds);
+    }
 
 pub side_at-right-requires : goal.side_at-right-requires
 side_at-right-requires c =
     let pre = c.requires in
     let inside = right_read pre.known pre.n_lt_count c.node_in-node.ensures c.right_from.ensures in
-    record { n_in_bounds = omega (arith, inside, pre.known.long); n_in_bounds_2 = omega (arith, inside, pre.count_in_bounds) }
+    record {
+      n_in_bounds = omega (arith, inside, pre.known.long);
+      n_in_bounds_2 = omega (arith, inside, pre.count_in_bounds);
+    }
 
 pub returns : goal.returns
 returns c =

@@ -1,6 +1,4 @@
-use Prim.Native.Nat.{◌-◌}
 use mathlib.Core.Path.{refl}
-use mathlib.Core.Bool.{false}
 use native.Mathlib.Omega.{arith}
 use Rattle.rules.proofs.Growing.{turning_none, turning_more, turning_end, grown_sound}
 use Rattle.profile.proofs.Weighing.{raised_visited}
@@ -12,7 +10,11 @@ loop-i-init c = turning_none _
 pub visit-changed-requires : goal.visit-changed-requires
 visit-changed-requires c =
     let pre = c.requires in
-    record { known = pre.known; n_lt_count = c.loop-i-test.true; count_in_bounds = omega (arith, c.loop-i.invariant.grown.long, pre.count_in_bounds) }
+    record {
+      known = pre.known;
+      n_lt_count = c.loop-i-test.true;
+      count_in_bounds = omega (arith, c.loop-i.invariant.grown.long, pre.count_in_bounds);
+    }
 
 pub loop-i-preserved : goal.loop-i-preserved
 loop-i-preserved c =

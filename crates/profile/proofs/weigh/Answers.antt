@@ -1,4 +1,3 @@
-use mathlib.Core.Bool.{true}
 use native.Mathlib.Omega.{arith}
 use Rattle.rules.proofs.Growing.{settling_none, settling_more}
 use Rattle.profile.proofs.Raising.{blank-tells, weights_less}
@@ -12,7 +11,11 @@ pub visit_all-requires : goal.visit_all-requires
 visit_all-requires c =
     let pre = c.requires in
     let settling = c.loop.invariant in
-    record { known = pre.known; count_in_bounds = omega (arith, pre.blank.long, settling.long); sound = settling.sound }
+    record {
+      known = pre.known;
+      count_in_bounds = omega (arith, pre.blank.long, settling.long);
+      sound = settling.sound;
+    }
 
 pub loop-smaller : goal.loop-smaller
 loop-smaller c =
