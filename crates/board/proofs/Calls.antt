@@ -11,7 +11,7 @@ use Rattle.reader.specs.declared.Reading.{Reading}
 use Rattle.drums.specs.declared.Drum.{Drum}
 use Rattle.drums.specs.declared.Stepped.{Stepped}
 use Rattle.drums.specs.Drums.{idle_drum, absent_of}
-use Rattle.board.specs.Board.{Called, calls, called}
+use Rattle.board.specs.Board.{calls, called}
 
 -- a test that holds takes the first, one that fails the second
 pub chosen : {A : Type 0} (test : Bool) (x y : A) → T test → cond test x y ≡ x

@@ -1,19 +1,19 @@
 -- A drum's calls alone say how it stands and what it answers: two boards of one length that agree at a drum still do so after
 -- a call for it, with one answer, and a call for another drum leaves it as it was.
 use mathlib.Core.Path.{◌≡◌, refl, sym, ◌∙◌, ap, subst}
-use mathlib.Core.Bool.{Bool, true, false, not, cond}
+use mathlib.Core.Bool.{Bool, true, false, not}
 use mathlib.Core.Logic.{◌⊎◌, inl, inr}
 use mathlib.Core.List.{List, [], ◌∷◌}
 use Prim.Native.Nat.{ℕ}
 use lib.Dec.{T, T_not, ltb, ltb→lt, eqb, eqb→eq, eqb_refl}
-use lib.ListN.{length, get_or, set, length-set}
+use lib.ListN.{length, get_or, length-set}
 use lib.Seq.{get_or-set_same, get_or-set_other}
 use Rattle.reader.specs.declared.Reading.{Reading}
 use Rattle.drums.specs.declared.Drum.{Drum}
 use Rattle.drums.specs.declared.Stepped.{Stepped}
-use Rattle.drums.specs.Drums.{idle_drum, absent_of}
-use Rattle.board.specs.Board.{Called, calls, called}
-use Rattle.board.specs.Sequences.{Asked, asked_of, Call, call_on, drums_after, answers_for, calls_for, Touches, Isolated}
+use Rattle.drums.specs.Drums.{idle_drum}
+use Rattle.board.specs.Board.{Called, called}
+use Rattle.board.specs.Sequences.{asked_of, Call, call_on, drums_after, answers_for, calls_for, Touches, Isolated}
 use Rattle.board.proofs.Calls.{chosen, other, called_on, called_off}
 
 -- a test holds or fails

@@ -14,7 +14,7 @@ use Rattle.book.specs.Form.{DONE, judged}
 use Rattle.book.specs.declared.Judged.{Judged}
 use Rattle.running.specs.Running.{Plan, with_slots, StepOf, refused, AnswerOf, UNKNOWN}
 use Rattle.running.specs.Stages.{Part, part, staged_event}
-use Rattle.plan.specs.Form.{PLAN-FORM, CELL, plan_of, plan_count, plan_judged}
+use Rattle.plan.specs.Form.{PLAN-FORM, plan_of, plan_count, plan_judged}
 use Rattle.reader.specs.Numbers.{LONG, answered}
 use Rattle.reader.proofs.Answers.{judged_bad}
 use Rattle.reader.proofs.Refusals.{Numbered, numbered_taken, numbered_refused, event_numbered}

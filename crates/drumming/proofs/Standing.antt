@@ -1,7 +1,7 @@
 -- How a drum stands: its parts, its counts, zeros in its unused slots; it is neither idle nor stale.
-use mathlib.Core.Path.{◌≡◌, refl, sym, ap, ◌∙◌}
-use mathlib.Core.Bool.{Bool, true, false, ◌&&◌, ◌||◌}
-use mathlib.Core.List.{List, ◌++◌}
+use mathlib.Core.Path.{◌≡◌, refl, sym, ◌∙◌}
+use mathlib.Core.Bool.{true, false, ◌&&◌, ◌||◌}
+use mathlib.Core.List.{List}
 use Prim.Native.Nat.{ℕ, zero, suc, ◌+◌, ◌-◌, ◌≤◌, ◌<◌}
 use native.Mathlib.Omega.{arith}
 use borrow.Author.Tests.{eqb-true, eq-eqb, lt-ltb, le-ltb}
@@ -13,7 +13,6 @@ use Rattle.words.proofs.FirstBad.{every_good}
 use Rattle.words.proofs.Lists.{get_d_second}
 use Rattle.words.proofs.Tests.{both, fails}
 use Rattle.book.specs.Form.{DONE, judged}
-use Rattle.reader.specs.Machine.{SlotsHold}
 use Rattle.drums.specs.declared.Drum.{Drum}
 use Rattle.drums.specs.Drums.{IDLE, drum_slots, most_events, most_records, idle_drum, idle, nodes_held, drum_judged}
 use Rattle.drums.specs.Sound.{Sound}

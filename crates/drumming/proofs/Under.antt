@@ -12,12 +12,11 @@ use lib.ListN.{length, get_or, set, length-append}
 use Rattle.words.specs.Words.{zeros}
 use Rattle.book.specs.Form.{DONE, judged}
 use Rattle.book.specs.declared.Judged.{Judged}
-use Rattle.running.specs.Running.{Plan, with_slots, emptied, StepOf, taken, refused, AnswerOf, accepted, stopped, logged, expected}
+use Rattle.running.specs.Running.{Plan, with_slots, emptied, StepOf, refused, AnswerOf, accepted, stopped, logged, expected}
 use Rattle.running.specs.Running.{UNKNOWN, END, RUNAWAY}
-use Rattle.running.specs.Stages.{Part, part, staged_event, staged_finish, staged_reading, stage_of, nodes_of}
-use Rattle.plan.specs.Form.{plan_from, plan_of, plan_count, plan_kinds, plan_judged, Runnable}
+use Rattle.running.specs.Stages.{Part, staged_event, staged_finish, staged_reading, stage_of, nodes_of}
+use Rattle.plan.specs.Form.{plan_from, plan_of, plan_count, plan_kinds, Runnable}
 use Rattle.plan.proofs.Runnable.{some_node, few_nodes_lem, start_node}
-use Rattle.reader.specs.declared.Reading.{Reading}
 use Rattle.reader.specs.Numbers.{LONG, answered, refusal}
 use Rattle.reader.specs.Machine.{After, slot_of, stack, SlotsHold, event_of as slotsAfter}
 use Rattle.reader.specs.Reads.{Outcome, accepted_of, outcome_of, run_of, read_of}
@@ -25,7 +24,7 @@ use Rattle.reader.specs.Steps.{Progress, going, over, advanced, step, steps, clo
 use Rattle.reader.proofs.Fold.{reading_steps}
 use Rattle.reader.proofs.Refusals.{Numbered, numbered_taken, numbered_refused}
 use Rattle.reader.proofs.Settles.{read_long, read_runs}
-use Rattle.reader.proofs.Simulation.{Stepped as Met, as_taken, as_refused, Bounded, bounded}
+use Rattle.reader.proofs.Simulation.{Stepped as Met, as_taken, as_refused, bounded}
 use Rattle.reader.proofs.Slots.{stack-length, stack_held}
 use Rattle.reader.proofs.Stops.{started}
 use Rattle.drums.specs.declared.Drum.{Drum}
@@ -33,7 +32,7 @@ use Rattle.drums.specs.declared.Stepped.{Stepped}
 use Rattle.drums.specs.Drums.{drum_slots, most_events, most_records, idle_drum, parts_of, due_of, standing, stepped, event_ends, end_answers}
 use Rattle.drums.specs.Drums.{opened, evented, closed, call_judged, drum_judged, open_of, event_of, close_of}
 use Rattle.drums.specs.Sound.{Sound}
-use Rattle.drums.proofs.Parts.{cleared, cleared_parts, cleared_hold, standing_is}
+use Rattle.drums.proofs.Parts.{cleared_parts, cleared_hold, standing_is}
 use Rattle.drums.proofs.Calls.{call_done, past_on, drum_on}
 use Rattle.drums.proofs.Steps.{asked, asked_numbered, met, ends, step_long, step_safe}
 use Rattle.drumming.specs.Drumming.{Usable}

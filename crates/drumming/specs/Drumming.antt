@@ -1,5 +1,5 @@
 -- A drum by one good plan: its calls answer as a reading of its events does.
-use Rattle.std.specs.Prelude.{ℕ, suc, ◌≤◌, ◌<◌, ◌≡◌, ◌≢◌, List, [], ◌∷◌, ◌++◌, length, get_or}
+use Rattle.std.specs.Prelude.{ℕ, ◌≤◌, ◌<◌, ◌≡◌, ◌≢◌, List, [], ◌∷◌, ◌++◌, length, get_or}
 use Rattle.book.specs.Form.{DONE, judged}
 use Rattle.plan.specs.Form.{plan_count, plan_judged}
 use Rattle.reader.specs.Reads.{read_of}

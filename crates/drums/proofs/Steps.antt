@@ -2,16 +2,16 @@
 use mathlib.Core.Path.{◌≡◌, refl, sym, ap, ◌∙◌}
 use mathlib.Core.Bool.{Bool, true, false, cond}
 use mathlib.Core.List.{List}
-use Prim.Native.Nat.{ℕ, suc, ◌+◌, ◌*◌, ◌-◌, ◌<◌}
+use Prim.Native.Nat.{ℕ, suc, ◌+◌, ◌*◌, ◌-◌}
 use native.Mathlib.Omega.{arith}
 use borrow.Author.Tests.{eq-eqb, ne_eqb}
-use lib.Dec.{ltb, eqb}
+use lib.Dec.{ltb}
 use Rattle.book.specs.Form.{DONE}
 use Rattle.running.specs.Running.{Plan, with_slots, StepOf, refused, AnswerOf, expected, tells, UNKNOWN}
-use Rattle.running.specs.Stages.{Part, staged_event, staged_finish, stage_of, nodes_of}
+use Rattle.running.specs.Stages.{Part, staged_event, stage_of, nodes_of}
 use Rattle.reader.specs.declared.Reading.{Reading}
 use Rattle.reader.specs.Numbers.{LONG, answered, told, refusal}
-use Rattle.reader.specs.Machine.{After, stands, stack, SlotsHold, take_of, event_of, finish_of, close_of}
+use Rattle.reader.specs.Machine.{After, stands, stack, take_of, event_of, close_of}
 use Rattle.reader.specs.Reads.{Outcome}
 use Rattle.reader.proofs.Bounds.{Safe, event_safe}
 use Rattle.reader.proofs.Refusals.{Numbered, numbered_taken, numbered_refused, event_numbered}

@@ -1,6 +1,6 @@
 -- The tests of a drum: idle, then stale.
-use mathlib.Core.Path.{◌≡◌, refl, sym, ◌∙◌}
-use mathlib.Core.Bool.{Bool, true, false, not, ◌&&◌, ◌||◌, cond}
+use mathlib.Core.Path.{◌≡◌, refl, sym}
+use mathlib.Core.Bool.{Bool, true, false, ◌&&◌, ◌||◌}
 use mathlib.Core.List.{List}
 use Prim.Native.Nat.{ℕ, ◌≤◌, ◌<◌}
 use native.Mathlib.Omega.{arith}
@@ -11,7 +11,6 @@ use Rattle.words.specs.Lists.{every}
 use Rattle.words.proofs.FirstBad.{every_is}
 use Rattle.words.proofs.Tests.{never}
 use Rattle.book.specs.Form.{DONE, judged}
-use Rattle.book.specs.declared.Judged.{Judged}
 use Rattle.reader.specs.Machine.{node_in, SlotsHold}
 use Rattle.drums.specs.declared.Drum.{Drum}
 use Rattle.drums.specs.Drums.{IDLE, STALE, drum_slots, most_events, most_records, idle, nodes_held, stale, drum_judged}

@@ -16,7 +16,7 @@ use Rattle.drums.specs.declared.Drum.{Drum}
 use Rattle.drums.specs.Drums.{drum_slots, most_due, parts_of}
 use Rattle.drumming.specs.Drumming.{Usable, Stands}
 use Rattle.drumming.proofs.Alike.{stack_below}
-use Rattle.drumming.proofs.Under.{Under, unknown_stops}
+use Rattle.drumming.proofs.Under.{unknown_stops}
 use Rattle.drumming.proofs.Drumming.{stands_under}
 use Rattle.meaning.proofs.Parts.{held_derives, derives_held}
 use Rattle.meaning.proofs.Next.{Behind}

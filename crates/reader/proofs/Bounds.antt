@@ -8,7 +8,7 @@ use lib.Dec.{ltb}
 use lib.ListN.{length, get_or, set}
 use Rattle.book.specs.Form.{DONE}
 use Rattle.running.specs.Running.{Plan, with_slots, emptied, StepOf, taken, event, UNKNOWN, END}
-use Rattle.running.specs.Stages.{Part, staged_event, nodes_of, bare_step}
+use Rattle.running.specs.Stages.{Part, nodes_of, bare_step}
 use Rattle.running.proofs.Stages.{event_bare, nodes_length}
 use Rattle.running.proofs.Records.{Within, taken-within, refused-within, within_more, event_within}
 use Rattle.reader.specs.Machine.{After, SlotsHold, stands, node_in, stack, take_of, event_of, finish_of}

@@ -6,7 +6,7 @@ use native.Mathlib.Omega.{arith}
 use native.Mathlib.Decide.{ℕ_discrete}
 use lib.ListN.{length, get_or, set, length-set}
 use lib.Seq.{get_or-set_same, get_or-set_other}
-use Rattle.running.specs.Stages.{Part, part, stage_of}
+use Rattle.running.specs.Stages.{part, stage_of}
 use Rattle.reader.specs.Machine.{slot_of, node_in, label_in, stack, SlotsHold}
 
 -- what stands in a slot that is made of a node and a label

@@ -1,5 +1,4 @@
 -- `drums::is_idle` meets its contract: the counts, then the slots.
-use mathlib.Core.Path.{sym}
 use borrow.Author.Rules.{rules}
 use Rattle.drums.proofs.Tests.{idle_not, idle_by}
 use Rattle.drums.proofs.is_idle.Goals as goal

@@ -1,5 +1,4 @@
 -- `drums::judge_drum` meets its contract, by each of its tests.
-use mathlib.Core.Path.{sym}
 use native.Mathlib.Omega.{arith}
 use borrow.Author.Rules.{rules}
 use Rattle.drums.proofs.Tests.{drum_idle, drum_far, drum_astray, drum_done, near_counts, sound_by}

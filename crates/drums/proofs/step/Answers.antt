@@ -40,7 +40,7 @@ unfolding plan_from
 returns-then-spot-ne-DONE c =
     let pre = c.requires in
     (c.stop-then-spot-ne-DONE.ensures ∙ ap (λ (r : Reading). stepped r idle_drum) c.refuse_event.ensures)
-    ∙ step-refused _ _ (bounded pre.0) pre.1 _ _ c.if-d-eq-MOST_EVENTS.false (out (goal.at.returns-then-spot-ne-DONE c).After-take_event-spot) c.take_event-spot.ensures c.if-spot-ne-DONE.true
+    ∙ step-refused _ _ (bounded pre.0) pre.1 _ _ (λ e. omega (arith, e)) (out (goal.at.returns-then-spot-ne-DONE c).After-take_event-spot) c.take_event-spot.ensures c.if-spot-ne-DONE.true
 
 -- or taken
 safe : (v : Met) → v.take_event-spot.result.number ≡ DONE
@@ -50,7 +50,7 @@ unfolding plan_from
 safe v done =
     let pre = v.requires in
     step_safe (plan_from v.args.plan.now v.args.nodes v.args.kinds) _ (bounded pre.0) pre.1 _ _
-    v.if-d-eq-MOST_EVENTS.false (out v) v.take_event-spot.ensures done
+    (λ e. omega (arith, e)) (out v) v.take_event-spot.ensures done
 
 pub overflow_cast-spot : goal.overflow_cast-spot
 overflow_cast-spot c =
@@ -66,4 +66,4 @@ unfolding plan_from
 returns c =
     let pre = c.requires in
     rw (add-one c.args.d.events) at c.go_on.ensures
-    ∙ step-taken _ _ (bounded pre.0) pre.1 _ _ c.if-d-eq-MOST_EVENTS.false (out (goal.at.returns c).After-take_event-spot) c.take_event-spot.ensures c.if-spot-ne-DONE.false
+    ∙ step-taken _ _ (bounded pre.0) pre.1 _ _ (λ e. omega (arith, e)) (out (goal.at.returns c).After-take_event-spot) c.take_event-spot.ensures c.if-spot-ne-DONE.false

@@ -1,4 +1,3 @@
-use Prim.Native.Nat.{◌-◌}
 use native.Mathlib.Omega.{arith}
 use Rattle.words.proofs.Cleared.{cleared_none, cleared_more, cleared-length, cleared-all}
 use Rattle.reader.proofs.clear_slots.Goals as goal

@@ -1,7 +1,7 @@
 -- `reader::events` meets its contract: the run, by where its events stop. Where the slots were written over, reading the events before
 -- again gives the parts held before the event refused.
 use mathlib.Core.Path.{◌≡◌, refl, sym, ◌∙◌}
-use mathlib.Core.Bool.{true, false}
+use mathlib.Core.Bool.{true}
 use Prim.Native.Nat.{◌<◌}
 use native.Mathlib.Omega.{arith}
 use borrow.Author.Rules.{rules}

@@ -1,6 +1,6 @@
 -- `reader::expected_by` meets its contract. The loop's invariant: the kinds joined so far, with those that the parts left expect, are those
 -- that all parts expect. The measure is the parts left.
-use Prim.Native.Nat.{◌-◌, ◌≤◌}
+use Prim.Native.Nat.{◌≤◌}
 use Rattle.running.specs.Running.{expected}
 use Rattle.running.specs.Stages.{nodes_of}
 use Rattle.plan.specs.Form.{plan_from}

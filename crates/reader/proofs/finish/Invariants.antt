@@ -1,6 +1,6 @@
 -- `reader::finish` meets its contract. The loop's invariant: taking the parts left off comes to the run's end, and the state is sound. The
 -- measure is the parts left.
-use Prim.Native.Nat.{◌+◌, ◌-◌}
+use Prim.Native.Nat.{◌+◌}
 use lib.ListN.{length}
 use Rattle.plan.specs.Form.{plan_from}
 use Rattle.reader.specs.Machine.{finish_of}

@@ -1,6 +1,5 @@
 -- `reader::stage_of` meets its contract: the label in the slot of the part held last.
 use mathlib.Core.Path.{refl, sym}
-use Prim.Native.Nat.{◌-◌}
 use Rattle.running.specs.Stages.{stage_of}
 use Rattle.reader.specs.Machine.{stack}
 use Rattle.reader.proofs.Slots.{stage_last}

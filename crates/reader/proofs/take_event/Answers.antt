@@ -19,7 +19,7 @@ runs t = t.requires.runs
 
 -- the kind is known
 known : (t : Turn) → t.args.kind < t.args.kinds
-known t = t.if-kinds-kind.false
+known t = omega arith
 
 -- the part taken off is a small number
 last-small : (t : Turn) → last_at t.loop-parts.held t.loop-parts.parts < 512
@@ -34,7 +34,7 @@ pub loop-parts-init : goal.loop-parts-init
 unfolding event_of plan_from
 loop-parts-init c =
     let pre = c.requires in
-    record { rest = rw (lt-ltb _ _ c.if-kinds-kind.false) refl; safe = pre.parts; tree_long = refl; small = omega arith }
+    record { rest = rw (lt-ltb c.args.kind c.args.kinds (omega arith)) refl; safe = pre.parts; tree_long = refl; small = omega arith }
 
 pub offset_bounds-held-parts : goal.offset_bounds-held-parts
 offset_bounds-held-parts c = omega (arith, c.loop-parts.invariant.small, c.requires.few_records)

@@ -4,7 +4,7 @@ use Prim.Native.Nat.{◌+◌, ◌*◌, ◌-◌}
 use lib.ListN.{length}
 use Rattle.plan.specs.Form.{plan_from}
 use Rattle.reader.specs.Machine.{walk_of}
-use Rattle.reader.proofs.WalkUnderWay.{Walking, visits}
+use Rattle.reader.proofs.WalkUnderWay.{Walking}
 use Rattle.reader.proofs.walk.Given as goal
 
 abbrev pub invariant-loop-visits : goal.invariant-loop-visits
