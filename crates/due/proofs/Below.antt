@@ -2,9 +2,9 @@
 use Prim.Native.Nat.{ℕ, ◌<◌}
 use mathlib.Core.Path.{◌≡◌}
 use mathlib.Core.List.{List, [], ◌∷◌}
-use Rattle.words.specs.Words.{Below, below_none, below_more}
+use Rattle.words.specs.Words.{Below, below_more}
 use Rattle.trees.specs.declared.Due.{Due}
-use Rattle.trees.specs.declared.Due.TheVariants.{Nothing, Part, Taking, OneOf, Both}
+use Rattle.trees.specs.declared.Due.TheVariants.{Part, Taking, OneOf, Both}
 use Rattle.due.specs.Due.{due_nodes, DueBelow}
 
 first_below : {count n : ℕ} {more : List ℕ} → Below count (n ∷ more) → n < count

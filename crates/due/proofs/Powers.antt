@@ -1,9 +1,8 @@
 -- A table of facts tells what each node can do.
 use Prim.Native.Nat.{ℕ, ◌+◌, ◌*◌, ◌<◌, ◌^◌}
 use native.Mathlib.Omega.{arith}
-use mathlib.Core.Path.{◌≡◌, refl, sym, subst, ◌∙◌}
-use mathlib.Core.Bool.{Bool, true, false, not}
-use mathlib.Core.Logic.{◌↔◌}
+use mathlib.Core.Path.{◌≡◌, refl, subst}
+use mathlib.Core.Bool.{true, false, not}
 use mathlib.Core.List.{List}
 use lib.Dec.{ltb, eqb}
 use lib.ListN.{get_or}
@@ -12,11 +11,10 @@ use Rattle.words.proofs.Tests.{both, joined}
 use Rattle.kinds.specs.Kinds.{Has, has?, lowest_kind}
 use Rattle.kinds.proofs.Laws.{has?_is, has_below, lowest_is, none}
 use Rattle.book.specs.Book.{Book, WellFormed}
-use Rattle.book.specs.declared.Node.{Node}
 use Rattle.grammar.specs.Rules.{First, Nullable}
 use Rattle.rules.specs.Facts.{Facts, facts_at}
 use Rattle.rules.proofs.Bounds.{named_below, first_kind}
-use Rattle.trees.specs.Machine.{Powers, PowersOf}
+use Rattle.trees.specs.Machine.{PowersOf}
 use Rattle.due.specs.Due.{powers_in}
 
 module _ (b : Book) (wf : WellFormed b) (table : List ℕ) (facts : Facts b.node b.count table)

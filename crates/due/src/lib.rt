@@ -48,6 +48,7 @@ fn is_blank(table: &[u64], count: usize, n: usize, given: usize) -> bool
 }
 
 // Whether a record may stand where this is due.
+#[tactic(auto, unfolding(trees::specs::Machine::allows))]
 pub fn allowed(table: &[u64], count: usize, due: Due, given: usize) -> bool
     requires { (DueBelow count due) × (table_size count ≤ length table.now) }
     ensures { result ≡ allows (powers_in count table.now) due given }

@@ -13,7 +13,7 @@ use Rattle.trees.specs.declared.Due.TheVariants.{Nothing, Part, Taking, OneOf, B
 use Rattle.trees.specs.Trees.{is_emptied}
 use Rattle.trees.specs.Machine.{Powers, State, state, next, opened, kept, lapsed, behind, goes, reads, read_tree}
 use Rattle.trees.specs.Back.{right_due, found_at, whole_from, found_or, front, back, due_at}
-use Rattle.trees.proofs.ReadTrees.{Before, read_before}
+use Rattle.trees.proofs.ReadTrees.{read_before}
 
 -- what is due behind so many whole parts more, where the first of them is an empty record or is not
 unfoldable past : ℕ → Bool → Due → List ℕ → Due

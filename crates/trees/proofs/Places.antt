@@ -10,7 +10,7 @@ use Rattle.grammar.specs.Passing.{Passes}
 use Rattle.meaning.specs.Meaning.{Accepts}
 use Rattle.trees.specs.declared.Due.TheVariants.{Nothing, Part}
 use Rattle.trees.specs.Trees.{Tree, events}
-use Rattle.trees.specs.Machine.{Powers, PowersOf, State, state, allows, behind, goes, stops, step, onward, reads, read_tree}
+use Rattle.trees.specs.Machine.{Powers, PowersOf, State, state, allows, goes, stops, step, onward, reads, read_tree}
 use Rattle.trees.proofs.ReadTrees.{whole, clash, reads_append, read_more, owes_reads, tree_is_read, read_is_a_tree}
 use Rattle.trees.proofs.Ready.{ready_part, none_held, IsReady, ready_owed, ready_then_on, nothing_held}
 

@@ -3,7 +3,7 @@ use Prim.Native.Nat.{ℕ, suc, ◌<◌}
 use native.Mathlib.Omega.{arith}
 use mathlib.Core.Path.{◌≡◌, refl, sym, ap, ◌∙◌}
 use mathlib.Core.Bool.{Bool, true, false}
-use mathlib.Core.List.{List, [], ◌∷◌, ◌++◌, append_assoc}
+use mathlib.Core.List.{List, [], ◌∷◌, ◌++◌}
 use lib.ListN.{length, take, get_or}
 use lib.Seq.{take-suc}
 use Rattle.book.specs.Book.{Book, WellFormed}
@@ -13,7 +13,7 @@ use Rattle.meaning.proofs.Parts.{Held, held_none, held_some, derives_held, held_
 use Rattle.meaning.proofs.Walk.{Taken}
 use Rattle.trees.specs.declared.Due.{Due}
 use Rattle.trees.specs.declared.Due.TheVariants.{Nothing, Part}
-use Rattle.trees.specs.Trees.{Tree, events, events_at}
+use Rattle.trees.specs.Trees.{events, events_at}
 use Rattle.trees.specs.Machine.{Powers, PowersOf, State, state, allows, behind, Next, goes, stops, step, onward, reads, read_tree}
 use Rattle.trees.proofs.Owed.{Owed, owed_nothing, owed_part, owed_taking, owed_left, owed_right, owed_hold, owed_skip, Owes, taken_follow}
 use Rattle.trees.proofs.Steps.{step_sound, step_complete}

@@ -10,7 +10,7 @@ use borrow.Author.Tests.{eqb-true}
 use Rattle.words.proofs.Tests.{both, or_cases, never}
 use Rattle.book.specs.Book.{Book, WellFormed}
 use Rattle.book.specs.declared.Node.{Node}
-use Rattle.book.specs.declared.Node.TheVariants.{Fail, Empty, Token, Either, Then, Tagged, Ref}
+use Rattle.book.specs.declared.Node.TheVariants.{Either, Then}
 use Rattle.grammar.specs.Rules.{Productive, First, f_token, f_left, f_right, f_hold, f_skip, f_tagged, f_ref}
 use Rattle.grammar.proofs.Facts.{first_productive, productive_derives}
 use Rattle.running.specs.Running.{emptied}

@@ -1,11 +1,11 @@
 -- A record may stand where something is due exactly if what is due has records that begin with it, and what is due then are the others.
-use Prim.Native.Nat.{ℕ, ◌+◌, ◌<◌}
+use Prim.Native.Nat.{ℕ, ◌<◌}
 use native.Mathlib.Omega.{arith}
-use mathlib.Core.Path.{◌≡◌, refl, sym, ap, ◌∙◌}
+use mathlib.Core.Path.{◌≡◌, refl, sym, ◌∙◌}
 use mathlib.Core.Bool.{Bool, true, false, ◌&&◌}
 use mathlib.Core.Logic.{◌⊎◌, inl, inr}
 use mathlib.Core.List.{List, [], ◌∷◌, ◌++◌, head-eq_of_cons-eq, tail-eq_of_cons-eq}
-use lib.Dec.{leb, ltb, eqb}
+use lib.Dec.{ltb, eqb}
 use borrow.Author.Tests.{le-leb, lt-leb, ltb-true, ltb-false, eqb-true, eq-eqb}
 use Rattle.words.proofs.Tests.{both, joined, or_cases, or_left, or_right, never}
 use Rattle.book.specs.Book.{Book, WellFormed}
@@ -13,14 +13,14 @@ use Rattle.book.specs.declared.Node.{Node}
 use Rattle.book.specs.declared.Node.TheVariants.{Fail}
 use Rattle.grammar.specs.Rules.{First, Nullable}
 use Rattle.running.specs.Running.{emptied}
-use Rattle.meaning.proofs.Parts.{Held, held_none, held_some}
+use Rattle.meaning.proofs.Parts.{held_none, held_some}
 use Rattle.meaning.proofs.Walk.{Taken, part_first}
 use Rattle.trees.specs.declared.Due.{Due}
 use Rattle.trees.specs.declared.Due.TheVariants.{Nothing, Part, Taking, OneOf, Both}
 use Rattle.trees.specs.Trees.{own_events, events_at}
-use Rattle.trees.specs.Machine.{Powers, PowersOf, State, next, opened, kept, lapsed, stands, blank, allows, behind}
+use Rattle.trees.specs.Machine.{Powers, PowersOf, opened, kept, lapsed, stands, blank, allows, behind}
 use Rattle.trees.proofs.Owed.{Owed, owed_nothing, owed_part, owed_taking, owed_left, owed_right, owed_hold, owed_skip, Owes}
-use Rattle.trees.proofs.Owed.{Follows, Follow, next_owes, next_held, opened-follows, taken_follow}
+use Rattle.trees.proofs.Owed.{next_owes, next_held, opened-follows, taken_follow}
 
 no_first_fail : {node : ℕ → Node} {k : ℕ} → First node Fail k → ⊥
 no_first_fail = elim [ ]

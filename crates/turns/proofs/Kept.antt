@@ -6,8 +6,8 @@ use mathlib.Core.Bool.{Bool, true, false}
 use mathlib.Core.List.{List}
 use lib.Dec.{ltb}
 use lib.ListN.{length, get_or, length-set}
-use borrow.Author.Tests.{ltb-true, ltb-false}
-use Rattle.book.specs.Book.{Book, WellFormed, Proper, fail_is, empty_is, token_is, either_is, then_is, tagged_is, ref_is}
+use borrow.Author.Tests.{ltb-true}
+use Rattle.book.specs.Book.{Book, Proper, fail_is, empty_is, token_is, either_is, then_is, tagged_is, ref_is}
 use Rattle.book.specs.Form.{DONE, form_of, book_of}
 use Rattle.book.specs.declared.Node.{Node}
 use Rattle.book.proofs.Decoded.{formed, well_formed}

@@ -4,24 +4,24 @@ use Prim.Native.Nat.{ℕ, zero, suc, ◌+◌, ◌-◌, ◌≤◌, ◌<◌}
 use native.Mathlib.Omega.{arith}
 use native.Mathlib.Nat.{add-zero}
 use mathlib.Core.Path.{◌≡◌, refl, sym, ap, ◌∙◌}
-use mathlib.Core.Bool.{Bool, true, false, cond}
+use mathlib.Core.Bool.{Bool, true, false}
 use mathlib.Core.List.{List, [], ◌∷◌, ◌++◌}
 use lib.Dec.{ltb, eqb}
 use lib.ListN.{length, take, get_or, set, length-append, length-set}
 use lib.Seq.{get_or-set_same, get_or-set_other, sets}
-use borrow.Author.Tests.{ltb-true, ltb-false, lt-ltb, le-ltb, eq-eqb, ne_eqb}
+use borrow.Author.Tests.{ltb-true, lt-ltb, le-ltb, eq-eqb, ne_eqb}
 use Rattle.book.specs.Book.{Book}
 use Rattle.book.specs.declared.Node.{Node}
 use Rattle.book.specs.declared.Node.TheVariants.{Fail, Empty, Token, Either, Then, Tagged, Ref}
 use Rattle.trees.specs.declared.Due.{Due}
 use Rattle.trees.specs.declared.Due.TheVariants.{Nothing, Part, Taking, OneOf, Both}
 use Rattle.trees.specs.Trees.{is_emptied, own_events, events_at}
-use Rattle.trees.specs.Machine.{Powers, State, state, next, opened, kept, lapsed, allows, behind, goes, reads, read_tree}
+use Rattle.trees.specs.Machine.{Powers, state, next, opened, kept, lapsed, allows, behind, goes, read_tree}
 use Rattle.trees.specs.Back.{due_at}
 use Rattle.trees.proofs.ReadTrees.{read_on}
 use Rattle.trees.proofs.LookedBack.{due_at_lem}
 use Rattle.turns.specs.declared.Spot.{Spot}
-use Rattle.turns.specs.Slots.{spot_of, with_due, next_of, lapse_of, Left, left, hold_of, keep_of, Met, event_of, open_of, Came, turn_of}
+use Rattle.turns.specs.Slots.{spot_of, next_of, lapse_of, Left, hold_of, keep_of, event_of, open_of, Came, turn_of}
 
 -- the parts kept in the first so many slots, the one kept last in front
 unfoldable pub stack : List ℕ → ℕ → List ℕ

@@ -1,7 +1,7 @@
 -- Records of a book that passes are its tree, of one run, or wrong at one place; which of these is decided.
 use Prim.Native.Nat.{ℕ, zero, suc, ◌≤◌, ◌<◌}
 use native.Mathlib.Omega.{arith}
-use mathlib.Core.Path.{◌≡◌, refl, sym, ◌∙◌}
+use mathlib.Core.Path.{◌≡◌, refl}
 use mathlib.Core.Bool.{Bool, true, false}
 use mathlib.Core.Logic.{◌↔◌, ◌⊎◌, inl, inr}
 use mathlib.Core.List.{List}
@@ -17,8 +17,7 @@ use Rattle.rules.proofs.Bounds.{first_kind}
 use Rattle.rules.proofs.Marks.{nullable_decided, first_decided}
 use Rattle.verdict.proofs.Some.{decide, search}
 use Rattle.meaning.specs.Meaning.{Accepts}
-use Rattle.trees.specs.declared.Due.{Due}
-use Rattle.trees.specs.declared.Due.TheVariants.{Nothing, Part, Taking, OneOf, Both}
+use Rattle.trees.specs.declared.Due.TheVariants.{Part}
 use Rattle.trees.specs.Trees.{Tree, Wrong, wrong_at_lem, more_due, events}
 use Rattle.trees.specs.Machine.{Powers, PowersOf, State, state, allows, goes, reads, read_tree}
 use Rattle.trees.proofs.ReadTrees.{tree_is_read, read_on}

@@ -3,14 +3,14 @@
 use Prim.Native.Nat.{ℕ, ◌≤◌, ◌<◌}
 use native.Mathlib.Omega.{arith}
 use native.Mathlib.Decide.{ℕ_discrete}
-use mathlib.Core.Path.{◌≡◌, refl, sym, ap, subst, ◌∙◌}
+use mathlib.Core.Path.{◌≡◌, refl, sym, ap, ◌∙◌}
 use mathlib.Core.Bool.{Bool, true, false}
 use mathlib.Core.Logic.{◌↔◌, ◌≢◌, ◌⊎◌, inl, inr}
 use mathlib.Core.List.{List}
 use lib.Dec.{ltb}
 use lib.ListN.{length}
 use borrow.Author.Tests.{ltb-true, ltb-false}
-use Rattle.written.specs.Written.{Out, refused_with, handed_over, taken, Settled}
+use Rattle.written.specs.Written.{Out, refused_with, handed_over}
 use Rattle.written.proofs.Handing.{refused_settles, handed_settles, room_enough_lem, taken_over}
 use Rattle.book.specs.Form.{DONE, book_of}
 use Rattle.grammar.specs.Passing.{Passes}

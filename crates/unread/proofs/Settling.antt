@@ -10,7 +10,7 @@ use lib.Seq.{sets, length-sets}
 use borrow.Author.Tests.{ltb-true, ltb-false, lt-ltb, le-ltb}
 use Rattle.words.specs.Words.{zeros}
 use Rattle.words.proofs.Stored.{sets-zeros}
-use Rattle.written.specs.Written.{written, Out, refused_with, with_zeros, handed_over, out}
+use Rattle.written.specs.Written.{written, refused_with, with_zeros, handed_over, out}
 use Rattle.book.specs.Form.{DONE, book_of}
 use Rattle.verdict.specs.Judges.{judgement, Judges}
 use Rattle.trees.specs.Trees.{events}

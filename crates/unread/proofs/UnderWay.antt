@@ -17,13 +17,13 @@ use Rattle.trees.specs.declared.Due.{Due}
 use Rattle.trees.specs.declared.Due.TheVariants.{Nothing, Part, Taking, OneOf, Both}
 use Rattle.trees.specs.Trees.{is_emptied, own_events, events_at, events, Wrong, wrong_at_lem, more_due}
 use Rattle.trees.specs.Machine.{Powers, PowersOf, State, state, next, opened, kept, lapsed, allows, behind, goes, reads, read_tree}
-use Rattle.trees.proofs.ReadTrees.{Before, read_before}
+use Rattle.trees.proofs.ReadTrees.{read_before}
 use Rattle.trees.proofs.Places.{wrong_parts, due_lacks, nothing_due_tree}
-use Rattle.due.specs.Due.{is_nothing, DueBelow, Looked}
+use Rattle.due.specs.Due.{is_nothing, DueBelow}
 use Rattle.due.proofs.Inside.{read_inside, records_below, allowed_below}
 use Rattle.turns.specs.declared.Spot.{Spot}
 use Rattle.turns.specs.Slots.{Small, spot_of, Came, came, turn_of}
-use Rattle.turns.proofs.Turning.{stack, Keeps, Stands, keeps_length, turn_leads}
+use Rattle.turns.proofs.Turning.{stack, Stands, keeps_length, turn_leads}
 use Rattle.unread.specs.declared.Outcome.{Outcome}
 use Rattle.unread.specs.Unreads.{Comes}
 

@@ -77,6 +77,7 @@ fn read_tree(book: &[u8], table: &[u64], tree: &[u16], slots: &mut [u16], run: &
 }
 
 // The answer by what a tree came to, whose events stand in the run where there is room for them.
+#[tactic(auto, unfolding(crate::specs::Unreads::settled))]
 fn settle(outcome: Outcome, run: &mut [u8]) -> Written
     ensures { Hands (settled outcome run.old) result run.new }
 {

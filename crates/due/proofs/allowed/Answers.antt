@@ -1,6 +1,4 @@
--- `due::allowed` meets its contract: an arm for each thing that may be due.
-use mathlib.Core.Path.{refl}
-use Rattle.trees.specs.Machine.{allows}
+-- What `due::allowed` asks of its calls: the nodes of what is due are below the count.
 use Rattle.due.proofs.Below.{part_below, taking_below, one_of_below, both_below}
 use Rattle.due.proofs.allowed.Goals as goal
 
@@ -35,26 +33,3 @@ is_blank-requires-in-Both c =
 pub takes-requires : goal.takes-requires
 takes-requires c =
     ((both_below c.requires.0 c.in-Both.is).1, c.requires.1)
-
-pub returns-in-Nothing : goal.returns-in-Nothing
-unfolding allows
-returns-in-Nothing c = rw c.in-Nothing.is refl
-
-pub returns-in-Part : goal.returns-in-Part
-unfolding allows
-returns-in-Part c =
-    rw (c.in-Part.is, c.is_taking.ensures, c.is_blank.ensures) refl
-
-pub returns-in-Taking : goal.returns-in-Taking
-unfolding allows
-returns-in-Taking c = rw (c.in-Taking.is, c.is_taking-in-Taking.ensures) refl
-
-pub returns-in-OneOf : goal.returns-in-OneOf
-unfolding allows
-returns-in-OneOf c =
-    rw (c.in-OneOf.is, c.is_taking-in-OneOf.ensures, c.is_taking-in-OneOf-2.ensures) refl
-
-pub returns-in-Both : goal.returns-in-Both
-unfolding allows
-returns-in-Both c =
-    rw (c.in-Both.is, c.is_taking-in-Both.ensures, c.is_blank-in-Both.ensures, c.takes.ensures) refl

@@ -1,5 +1,4 @@
 -- `due::look_back` meets its contract. The loop's invariant: what is found from here is what is due. The measure is the records left.
-use Prim.Native.Nat.{◌-◌}
 use Rattle.book.specs.Form.{book_of}
 use Rattle.due.proofs.Looking.{Looking}
 use Rattle.due.proofs.look_back.Given as goal
