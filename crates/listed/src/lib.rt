@@ -60,6 +60,7 @@ fn shape_of(input: &[u8]) -> Shape
 }
 
 // Puts the line of a book that is refused, and answers its length.
+#[tactic(auto, unfolding(crate::specs::Listing::compiled_line))]
 fn put_compiled(out: &mut [u8], answer: Compiled) -> usize
     requires { conflict_room ≤ length out.old }
     ensures { Put out.old out.new 0 result (compiled_line answer) }
