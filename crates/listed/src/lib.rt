@@ -120,7 +120,7 @@ fn list_book(
     held: &mut [u32],
     tree: &mut [u16],
 ) -> usize
-    requires input_value { shape_of input.now ≡ Shape.Whole }
+    requires whole { shape_of input.now ≡ Shape.Whole }
     requires lent { Lent out.old plan.old held.old tree.old }
     ensures { Listed input.now out.old out.new result }
 {
