@@ -6,27 +6,11 @@ use mathlib.Core.List.{List}
 use lib.ListN.{length, take}
 use borrow.Author.Tests.{eq-eqb, ne_eqb}
 use Rattle.book.specs.Form.{DONE}
-use Rattle.verdict.specs.Judges.{CONFLICT}
-use Rattle.compiler.specs.declared.Compiled.{Compiled}
 use Rattle.reader.specs.declared.Reading.{Reading}
 use Rattle.reader.specs.Reads.{Reads, Outcome, outcome, read_of}
 use Rattle.reader.proofs.Answers.{read_told, records_fit}
-use Rattle.lines.specs.Lines.{Put, accepted_lines, refused_line, conflict_line}
-use Rattle.listed.specs.Listing.{slot_room, tree_room, compiled_line, third_of, reading_lines}
-
-module _ {out end : List ℕ} {last : ℕ} (answer : Compiled) where
-  -- the line of a conflict
-  pub put_if_conflict : answer.number ≡ CONFLICT
-      → Put out end 0 last (conflict_line answer.number answer.place answer.clash answer.both)
-      → Put out end 0 last (compiled_line answer)
-  unfolding compiled_line
-  put_if_conflict is p = rw (eq-eqb answer.number CONFLICT is) p
-
-  -- the line of another refusal of a book
-  pub put_if_other : answer.number ≢ CONFLICT → Put out end 0 last (refused_line answer.number answer.place 0)
-      → Put out end 0 last (compiled_line answer)
-  unfolding compiled_line
-  put_if_other other p = rw (ne_eqb answer.number CONFLICT other) p
+use Rattle.lines.specs.Lines.{Put, accepted_lines, refused_line}
+use Rattle.listed.specs.Listing.{slot_room, tree_room, third_of, reading_lines}
 
 module _ {out end : List ℕ} {last : ℕ} (events : ℕ) (answer : Reading) (tree : List ℕ) where
   -- the lines of a run that was accepted

@@ -60,6 +60,7 @@ fn shape_of(input: &[u8]) -> Shape
 }
 
 // Puts the line of a book that is refused, and answers its length.
+#[tactic(auto, unfolding(crate::specs::Listing::compiled_line))]
 fn put_compiled(out: &mut [u8], answer: Compiled) -> usize
     requires { conflict_room ≤ length out.old }
     ensures { Put out.old out.new 0 result (compiled_line answer) }
@@ -119,7 +120,7 @@ fn list_book(
     held: &mut [u32],
     tree: &mut [u16],
 ) -> usize
-    requires input_value { shape_of input.now ≡ Shape.Whole }
+    requires whole { shape_of input.now ≡ Shape.Whole }
     requires lent { Lent out.old plan.old held.old tree.old }
     ensures { Listed input.now out.old out.new result }
 {

@@ -1,12 +1,12 @@
 -- How a reading stands is told byte by byte as the machine tells it.
-use Prim.Native.Nat.{ℕ, zero, suc, ◌+◌, ◌-◌, ◌≤◌, ◌<◌}
+use Prim.Native.Nat.{ℕ, suc, ◌+◌, ◌-◌, ◌≤◌, ◌<◌}
 use native.Mathlib.Omega.{arith}
 use native.Mathlib.Numerals.{add-one}
 use mathlib.Core.Path.{◌≡◌, refl, sym, ap, ap₂, ◌∙◌}
 use mathlib.Core.Bool.{Bool, true, false, cond}
 use mathlib.Core.List.{List, [], ◌∷◌, ◌++◌}
 use lib.Dec.{ltb, eqb}
-use lib.ListN.{length, get_or, take, drop, length-append, drop_of_length-le, get_or-eq_default}
+use lib.ListN.{length, get_or, take, drop, length-append, drop_of_length-le}
 use lib.Seq.{drop-cons}
 use Rattle.sheets.specs.Text.{letter, blank, same, empty_word}
 use Rattle.sheets.specs.Grammar.{Expression, Rule}
@@ -16,15 +16,8 @@ use Rattle.syntax.specs.Machine.{opened, closes, ends, begins, follows, may_star
 use Rattle.syntax.specs.Machine.{with_factor, word_of, closed, at_end, onward, run, read_sheet}
 use Rattle.stands.specs.declared.Stand.{Stand}
 use Rattle.stands.specs.declared.Stand.TheVariants.{NameDue, InName, EqualsDue, Due, InWord, After, Done}
-use Rattle.stands.specs.Stands.{staying, stood, kept_letter, kept_next, kept_from, stand_in, stand_of}
+use Rattle.stands.specs.Stands.{staying, stood, kept_next, kept_from, stand_in, stand_of}
 use Rattle.stands.specs.Stands.{beginning, ending, following, starring, naming, advance, advanced}
-
--- `empty` has five letters
-pub past_empty : (n : ℕ) → (((((Unit {0} × (n ≡ 0 → ⊥)) × (n ≡ 1 → ⊥)) × (n ≡ 2 → ⊥)) × (n ≡ 3 → ⊥)) × (n ≡ 4 → ⊥)) → kept_letter n ≡ 0
-past_empty n others = get_or-eq_default empty_word 0 {n = n} (past n others.0 others.1)
-  where
-    past : (n : ℕ) → ((((Unit {0} × (n ≡ 0 → ⊥)) × (n ≡ 1 → ⊥)) × (n ≡ 2 → ⊥)) × (n ≡ 3 → ⊥)) → (n ≡ 4 → ⊥) → 5 ≤ n
-    past n few last = omega arith
 
 -- ---- bytes one after the other
 

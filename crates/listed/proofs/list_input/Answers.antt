@@ -6,7 +6,7 @@ use Rattle.listed.proofs.list_input.Goals as goal
 
 pub list_book-requires : goal.list_book-requires
 list_book-requires c =
-    record { input_value = sym c.shape_of.ensures ∙ c.in-Whole.is; lent = c.requires }
+    record { whole = sym c.shape_of.ensures ∙ c.in-Whole.is; lent = c.requires }
 
 pub returns-in-TooLong : goal.returns-in-TooLong
 returns-in-TooLong c =
