@@ -1,2 +1,2 @@
-// What the calls of a board answer, how its drums then stand, and the proof that its exported functions share: no code.
+// What the calls of a board answer, and how its drums then stand: no code.
 #![tactic(auto)]

@@ -628,4 +628,5 @@ module _ {bytes : List ℕ} {room : ℕ} {a : Compiled} {plan : List ℕ} (compi
   pub board_profile_never_deep : {slots : ℕ} {depth : Depth} → Profiles bytes slots depth → depth.number ≡ DONE → slots ≤ drum_slots
       → (k : ℕ) → (event_of (take a.size plan) d number k).reading.number ≢ DEEP
   board_profile_never_deep profiles done few k =
-      let (measures, most) = taken_measured profiles done in board_never_deep measures done (le_trans most few) k
+      let (measures, most) = taken_measured profiles done in
+      drum_shallow compiled is low stands measures done (le_trans most few) k
