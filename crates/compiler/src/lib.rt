@@ -95,6 +95,15 @@ fn compile_by(book: &[u8], table: &mut [u64], least: &mut [u32], plan: &mut [u8]
     put_plan(book, table, least, plan)
 }
 
+// Compiles a book with the largest tables, which stand in a frame of their own.
+fn compile_large(book: &[u8], plan: &mut [u8]) -> Compiled
+    ensures { Compiles book.now (length plan.old) result plan.new }
+{
+    let mut table = [0u64; rules::TABLE];
+    let mut least = [lengths::CAP; lengths::TABLE];
+    compile_by(book, &mut table, &mut least, plan)
+}
+
 // Compiles a book, for any bytes and any plan room: done with the plan, or the first of 1 to 4, 19, 22 and 5 to 7 and a
 // clear plan buffer. A small book has small tables, which are quicker to fill.
 pub fn compile(book: &[u8], plan: &mut [u8]) -> Compiled
@@ -105,7 +114,5 @@ pub fn compile(book: &[u8], plan: &mut [u8]) -> Compiled
         let mut least = [lengths::CAP; lengths::SMALL_TABLE];
         return compile_by(book, &mut table, &mut least, plan);
     }
-    let mut table = [0u64; rules::TABLE];
-    let mut least = [lengths::CAP; lengths::TABLE];
-    compile_by(book, &mut table, &mut least, plan)
+    compile_large(book, plan)
 }

@@ -158,6 +158,16 @@ fn nodes_held(nodes: usize, slots: &[u32], held: usize) -> bool
     true
 }
 
+// Whether each part that a drum holds has a node below a count of nodes.
+fn parts_inside(nodes: usize, d: Drum) -> bool
+    requires { d.held ≤ length d.slots }
+    ensures { (result ≡ nodes_held nodes d.slots d.held)
+        × (result ≡ true → SlotsHold nodes (length d.slots) d.slots d.held) }
+{
+    let slots = d.slots;
+    nodes_held(nodes, &slots, d.held as usize)
+}
+
 // What an event and a close test of the drum.
 fn judge_drum(nodes: usize, d: Drum) -> Judged
     ensures { (result ≡ drum_judged nodes d) × (result.number ≡ 0 → Sound nodes d) }
@@ -174,8 +184,7 @@ fn judge_drum(nodes: usize, d: Drum) -> Judged
             place: 0,
         };
     }
-    let slots = d.slots;
-    if !nodes_held(nodes, &slots, d.held as usize) {
+    if !parts_inside(nodes, d) {
         return Judged {
             number: STALE,
             place: 0,
@@ -250,14 +259,21 @@ fn start(plan: &[u8], nodes: usize, kinds: usize) -> Stepped
     go_on(plan, nodes, kinds, 0, 0, 1, slots)
 }
 
-// A refusal of an event, by the drum as it stood before.
-fn refuse_event(plan: &[u8], nodes: usize, kinds: usize, d: Drum, number: u32) -> Reading
-    requires { (Runnable plan.now nodes kinds) × (Sound nodes d) }
+// A refusal of an event, by the drum as it stood before, with its slots.
+fn refuse_event(
+    plan: &[u8],
+    nodes: usize,
+    kinds: usize,
+    d: Drum,
+    slots: &[u32],
+    number: u32,
+) -> Reading
+    requires sound { (Runnable plan.now nodes kinds) × (Sound nodes d) }
+    requires own { slots.now ≡ d.slots }
     ensures { result ≡ refusal number d.events (stage_of (parts_of d))
         (expected (plan_from plan.now nodes kinds) (nodes_of (parts_of d))) }
 {
     if tells_kinds(number) {
-        let slots = d.slots;
         return refuse(
             plan,
             nodes,
@@ -265,7 +281,7 @@ fn refuse_event(plan: &[u8], nodes: usize, kinds: usize, d: Drum, number: u32) -
             number,
             d.events as usize,
             d.held as usize,
-            &slots,
+            slots,
         );
     }
     answer(number, d.events, 0)
@@ -292,7 +308,8 @@ fn step(plan: &[u8], nodes: usize, kinds: usize, d: Drum, kind: usize) -> Steppe
         &mut none,
     );
     if spot.number != DONE {
-        return stop(refuse_event(plan, nodes, kinds, d, spot.number));
+        slots = d.slots;
+        return stop(refuse_event(plan, nodes, kinds, d, &slots, spot.number));
     }
     go_on(
         plan,

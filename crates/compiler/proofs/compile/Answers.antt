@@ -1,6 +1,6 @@
--- `compiler::compile` meets its contract: the tables are blank and fresh, and long enough for the book.
-use Rattle.verdict.proofs.Books.{table-blank, small_blank}
-use Rattle.compiler.proofs.Answers.{lengths_fresh, small_fresh}
+-- `compiler::compile` meets its contract: small tables are blank and fresh, and long enough for a small book.
+use Rattle.verdict.proofs.Books.{small_blank}
+use Rattle.compiler.proofs.Answers.{small_fresh}
 use Rattle.compiler.proofs.compile.Goals as goal
 
 pub compile_by-requires : goal.compile_by-requires
@@ -10,6 +10,3 @@ compile_by-requires c =
       blank = λ good. small_blank _ claimed c.if-count_claimed-le-SMALL_BOOK.true good;
       fresh = λ good. small_fresh _ claimed c.if-count_claimed-le-SMALL_BOOK.true good;
     }
-
-pub compile_by-requires-2 : goal.compile_by-requires-2
-compile_by-requires-2 c = record { blank = λ good. table-blank _ good; fresh = λ good. lengths_fresh _ good }

@@ -11,20 +11,20 @@ pub returns-then-d : goal.returns-then-d
 returns-then-d c =
     (drum_far _ _ c.is_idle.ensures c.if-is_idle.false c.if-d.true, λ e. absurd (omega (arith, e)))
 
-pub nodes_held-requires : goal.nodes_held-requires
-nodes_held-requires c =
+pub parts_inside-requires : goal.parts_inside-requires
+parts_inside-requires c =
     omega (arith, (near_counts c.args.d c.if-d.false).0)
 
-pub returns-then-not-nodes_held : goal.returns-then-not-nodes_held
-returns-then-not-nodes_held c = (
-  drum_astray _ _ c.is_idle.ensures c.if-is_idle.false c.if-d.false c.nodes_held.ensures.0
-      c.if-not-nodes_held.true,
+pub returns-then-not-parts_inside : goal.returns-then-not-parts_inside
+returns-then-not-parts_inside c = (
+  drum_astray _ _ c.is_idle.ensures c.if-is_idle.false c.if-d.false c.parts_inside.ensures.0
+      c.if-not-parts_inside.true,
   λ e. absurd (omega (arith, e)),
 )
 
 pub returns : goal.returns
 returns c =
-    let hold = c.if-not-nodes_held.false in (
-      drum_done _ _ c.is_idle.ensures c.if-is_idle.false c.if-d.false c.nodes_held.ensures.0 hold,
-      λ e. sound_by _ _ c.if-d.false (c.nodes_held.ensures.1 hold) (search rules),
+    let hold = c.if-not-parts_inside.false in (
+      drum_done _ _ c.is_idle.ensures c.if-is_idle.false c.if-d.false c.parts_inside.ensures.0 hold,
+      λ e. sound_by _ _ c.if-d.false (c.parts_inside.ensures.1 hold) (search rules),
     )
