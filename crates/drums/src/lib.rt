@@ -259,21 +259,22 @@ fn start(plan: &[u8], nodes: usize, kinds: usize) -> Stepped
     go_on(plan, nodes, kinds, 0, 0, 1, slots)
 }
 
-// A refusal of an event, by the drum as it stood before, with its slots.
+// A refusal of an event, by the drum as it stood before, whose slots are copied where there is room for them.
 fn refuse_event(
     plan: &[u8],
     nodes: usize,
     kinds: usize,
     d: Drum,
-    slots: &[u32],
+    room: &mut [u32; 64],
     number: u32,
 ) -> Reading
-    requires sound { (Runnable plan.now nodes kinds) × (Sound nodes d) }
-    requires own { slots.now ≡ d.slots }
+    requires { (Runnable plan.now nodes kinds) × (Sound nodes d) }
     ensures { result ≡ refusal number d.events (stage_of (parts_of d))
         (expected (plan_from plan.now nodes kinds) (nodes_of (parts_of d))) }
 {
     if tells_kinds(number) {
+        let slots = d.slots;
+        *room = slots;
         return refuse(
             plan,
             nodes,
@@ -281,7 +282,7 @@ fn refuse_event(
             number,
             d.events as usize,
             d.held as usize,
-            slots,
+            room,
         );
     }
     answer(number, d.events, 0)
@@ -308,8 +309,7 @@ fn step(plan: &[u8], nodes: usize, kinds: usize, d: Drum, kind: usize) -> Steppe
         &mut none,
     );
     if spot.number != DONE {
-        slots = d.slots;
-        return stop(refuse_event(plan, nodes, kinds, d, &slots, spot.number));
+        return stop(refuse_event(plan, nodes, kinds, d, &mut slots, spot.number));
     }
     go_on(
         plan,

@@ -6,13 +6,12 @@ use Rattle.drums.proofs.refuse_event.Goals as goal
 
 pub refuse-requires : goal.refuse-requires
 refuse-requires c =
-    let pre = c.requires.sound in
-    (pre.0, rw c.requires.own (whole_parts pre.1), small_place pre.1)
+    let pre = c.requires in
+    (pre.0, whole_parts pre.1, small_place pre.1)
 
 pub returns-then-tells_kinds : goal.returns-then-tells_kinds
 returns-then-tells_kinds c =
-    rw c.requires.own at c.refuse.ensures
-    ∙ refusal-told _ _ _ _ (sym c.tells_kinds.ensures ∙ c.if-tells_kinds.true)
+    c.refuse.ensures ∙ refusal-told _ _ _ _ (sym c.tells_kinds.ensures ∙ c.if-tells_kinds.true)
 
 pub returns : goal.returns
 returns c =
