@@ -53,10 +53,10 @@ module _ (bytes : List ℕ) (base count n : ℕ) where
 pub good_nodes : (bytes : List ℕ) (base count kinds : ℕ) → base + 6 * count ≤ length bytes → count ≤ 512 → kinds ≤ 64
     → ((n : ℕ) → n < count → node_good bytes base kinds count n ≡ true) → GoodNodes bytes base count kinds
 unfolding node_at node_good
-good_nodes bytes base count kinds within few_nodes_lem few_kinds good =
+good_nodes bytes base count kinds within few_nodes few_kinds good =
     record {
       within = within;
-      few_nodes_lem = few_nodes_lem;
+      few_nodes = few_nodes;
       few_kinds = few_kinds;
       proper =
           λ n below.
@@ -97,7 +97,7 @@ formed bytes done =
       few_kinds = few_kinds;
       start_below = start_below;
       nodes_good = nodes_good;
-      good = good_nodes bytes (nodes_at bytes) _ _ size.within size.few_nodes_lem few_kinds (first_none _ _ nodes_good);
+      good = good_nodes bytes (nodes_at bytes) _ _ size.within size.few_nodes few_kinds (first_none _ _ nodes_good);
       names_good_lem =
           λ names.
           holds _
@@ -115,7 +115,7 @@ unfolding book_of
 well_formed {bytes} f =
     record {
       some_node = f.size.some_node;
-      few_nodes_lem = f.size.few_nodes_lem;
+      few_nodes = f.size.few_nodes;
       some_kind = f.some_kind;
       few_kinds = f.few_kinds;
       start_below = f.start_below;

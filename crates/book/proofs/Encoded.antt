@@ -58,7 +58,7 @@ module _ (sizes : List ℕ) (b : Book) (rest : List ℕ) (w : WellFormed b) (sma
         node_same n = rw (settings-are, count_is) (go n (ltb n b.count) refl)
 
     few_held : few_nodes held ≡ true
-    few_held = rw count_is (joined (leb 1 b.count) _ (le-leb _ _ w.some_node) (le-leb _ _ w.few_nodes_lem))
+    few_held = rw count_is (joined (leb 1 b.count) _ (le-leb _ _ w.some_node) (le-leb _ _ w.few_nodes))
 
     names_at_is : names_at held ≡ contents_size (length sizes) + 4 + 6 * b.count
     names_at_is = rw (settings-are, count_is)
@@ -84,7 +84,7 @@ module _ (b : Book) (w : WellFormed b) where
   plain = holding plain_sizes b []
 
   plain_small : form_size plain_sizes < 65536
-  plain_small = omega (arith, w.few_nodes_lem)
+  plain_small = omega (arith, w.few_nodes)
 
   plain_long : length plain ≡ 18 + 6 * b.count
   plain_long = omega (arith, length_is plain_sizes b [])
@@ -162,7 +162,7 @@ module _ (b : Book) (names : List (List ℕ)) (w : WellFormed b) (good : GoodNam
       )
 
   named_small : form_size named-sizes < 65536
-  named_small = omega (arith, w.few_nodes_lem, names_fit)
+  named_small = omega (arith, w.few_nodes, names_fit)
 
   is_named : named whole ≡ true
   unfolding named
@@ -190,7 +190,7 @@ module _ (b : Book) (names : List (List ℕ)) (w : WellFormed b) (good : GoodNam
       form_held named-sizes b (names_bytes names) w named_small named_settings named_count
       (rw is_named
       (joined (leb 32 (length whole)) _ (le-leb 32 (length whole) (omega (arith, whole_long, w.some_node, names_fit)))
-      (le-leb (length whole) 4184 (omega (arith, whole_long, w.few_nodes_lem, names_fit)))))
+      (le-leb (length whole) 4184 (omega (arith, whole_long, w.few_nodes, names_fit)))))
       (ap (λ t. cond t (named_sections (count_of whole) (length whole - names_at whole)) (book_sections (count_of whole))) is_named
       ∙ λ i. named_sections (named_count i) (left i))
       (rw (is_named, names_are_at, named_kinds, names_good_lem) refl)

@@ -71,13 +71,13 @@ module _ {kinds count own : ℕ} where
 
   -- they take 16 bits
   proper_small : {node : Node} → kinds ≤ 64 → count ≤ 512 → own < count → Proper kinds count own node → Small (node_words node)
-  proper_small few_kinds few_nodes_lem below fail_is = three 0 0 0 (omega arith)
-  proper_small few_kinds few_nodes_lem below empty_is = three 1 0 0 (omega arith)
-  proper_small few_kinds few_nodes_lem below (token_is {k} k-below) = three 2 k 0 (omega arith)
-  proper_small few_kinds few_nodes_lem below (either_is {l} {r} l-below r-below) = three 3 l r (omega arith)
-  proper_small few_kinds few_nodes_lem below (then_is {l} {r} l-below r-below) = three 4 l r (omega arith)
-  proper_small few_kinds few_nodes_lem below (tagged_is {l} {t} l-below (least, most)) = three 5 l t (omega arith)
-  proper_small few_kinds few_nodes_lem below (ref_is {l} l-below) = three 6 l 0 (omega arith)
+  proper_small few_kinds few_nodes below fail_is = three 0 0 0 (omega arith)
+  proper_small few_kinds few_nodes below empty_is = three 1 0 0 (omega arith)
+  proper_small few_kinds few_nodes below (token_is {k} k-below) = three 2 k 0 (omega arith)
+  proper_small few_kinds few_nodes below (either_is {l} {r} l-below r-below) = three 3 l r (omega arith)
+  proper_small few_kinds few_nodes below (then_is {l} {r} l-below r-below) = three 4 l r (omega arith)
+  proper_small few_kinds few_nodes below (tagged_is {l} {t} l-below (least, most)) = three 5 l t (omega arith)
+  proper_small few_kinds few_nodes below (ref_is {l} l-below) = three 6 l 0 (omega arith)
 
 -- lists of numbers that take 16 bits, one after the other
 small_lists : (list : ℕ → List ℕ) (left n : ℕ) → ((m : ℕ) → m < n + left → Small (list m)) → Small (lists_from list left n)
@@ -99,9 +99,9 @@ module _ (b : Book) where
   unfolding body_words
   body_small w =
       below_more {n = b.kinds} (omega (arith, w.few_kinds))
-      (below_more {n = b.start} (omega (arith, w.start_below, w.few_nodes_lem))
+      (below_more {n = b.start} (omega (arith, w.start_below, w.few_nodes))
       (small_lists node_list b.count 0
-      (λ m below. proper_small w.few_kinds w.few_nodes_lem (omega arith) (w.proper m (omega arith)))))
+      (λ m below. proper_small w.few_kinds w.few_nodes (omega arith) (w.proper m (omega arith)))))
 
 -- the bytes of contents, of a book's settings and nodes, and of what follows
 abbrev pub holding : List ℕ → Book → List ℕ → List ℕ

@@ -46,7 +46,7 @@ settings_between bytes = go (named bytes) refl
 -- N is 1 to 512, and so many nodes stand in the bytes
 pub record Sized (bytes : List ℕ) : Type 0 where
   pub some_node : 0 < count_of bytes
-  pub few_nodes_lem : count_of bytes ≤ 512
+  pub few_nodes : count_of bytes ≤ 512
   pub within : names_at bytes ≤ length bytes
 
 -- a number that a test finds within bounds is within wider ones
@@ -68,8 +68,8 @@ pub length_plain : (bytes : List ℕ) → named bytes ≡ false → length_good 
 length_plain bytes plain good =
     let tests : (few_nodes bytes && eqb (length bytes) (names_at bytes)) ≡ true = rw plain at good in
     let (few, whole) = both (few_nodes bytes) _ tests in
-    let (some_node, few_nodes_lem) = few_nodes_are bytes few in
-    (some_node, few_nodes_lem, eqb-true _ _ whole)
+    let (some_node, at_most_512) = few_nodes_are bytes few in
+    (some_node, at_most_512, eqb-true _ _ whole)
 
 pub length-named : (bytes : List ℕ) → named bytes ≡ true → length_good bytes ≡ true → (32 ≤ length bytes) × (length bytes ≤ 4184)
 length-named bytes names good =
@@ -93,8 +93,8 @@ pub sized : (bytes : List ℕ) → contents_good bytes ≡ true → Sized bytes 
 sized bytes good =
     let (fit, are) = both (few_nodes bytes && leb (names_at bytes) (length bytes)) _ good in
     let (few, within) = both (few_nodes bytes) _ fit in
-    let (some_node, few_nodes_lem) = few_nodes_are bytes few in
-    (record { some_node = some_node; few_nodes_lem = few_nodes_lem; within = leb-true _ _ within }, are)
+    let (some_node, at_most_512) = few_nodes_are bytes few in
+    (record { some_node = some_node; few_nodes = at_most_512; within = leb-true _ _ within }, are)
 
 -- what good settings say
 pub settings_say : (bytes : List ℕ) (at count : ℕ) → settings_good bytes at count ≡ true

@@ -153,7 +153,7 @@ module _ (bytes : List ℕ) (below : Below 256 bytes) (done : (form_of bytes).nu
   pub good_form_bytes : named bytes ≡ false → book_bytes (book_of bytes) ≡ bytes
   unfolding book_bytes book_of
   good_form_bytes plain =
-      let (some_node, few_nodes_lem, long) = length_plain bytes plain form.long in
+      let (some_node, few_nodes, long) = length_plain bytes plain form.long in
       sym (append-nil _)
       ∙ together {sizes = book_sections (count_of bytes)} (rw plain refl) (sym (drop_of_length-le bytes {i = names_at bytes} (omega arith)))
 

@@ -57,7 +57,7 @@ pub data Proper (kinds count own : ℕ) : Node → Type 0 where
 -- a well-formed book: 1 to 512 nodes over 1 to 64 kinds, the start among them, each node proper, nothing beyond
 pub record WellFormed (b : Book) : Type 0 where
   pub some_node : 0 < b.count
-  pub few_nodes_lem : b.count ≤ 512
+  pub few_nodes : b.count ≤ 512
   pub some_kind : 0 < b.kinds
   pub few_kinds : b.kinds ≤ 64
   pub start_below : b.start < b.count

@@ -93,6 +93,6 @@ module _ (bytes : List ℕ) (base : ℕ) where
   -- nodes that stand in the bytes and are all as the type table has them
   pub record GoodNodes (count kinds : ℕ) : Type 0 where
     pub within : base + 6 * count ≤ length bytes
-    pub few_nodes_lem : count ≤ 512
+    pub few_nodes : count ≤ 512
     pub few_kinds : kinds ≤ 64
     pub proper : (n : ℕ) → n < count → Proper kinds count n (nodes count n)

@@ -25,7 +25,7 @@ use Rattle.compiler.specs.Compiles.{Compiles, refused, no_room, done, answer, PL
 
 -- tables of lengths at the cap, for any book of good form and for one that claims few nodes
 pub lengths_fresh : (bytes : List ℕ) → (form_of bytes).number ≡ DONE → Fresh (book_of bytes).count (replicate 512 65536)
-lengths_fresh bytes good = fresh_less (omega (arith, (well_formed (formed bytes good)).few_nodes_lem)) (fresh_caps 512)
+lengths_fresh bytes good = fresh_less (omega (arith, (well_formed (formed bytes good)).few_nodes)) (fresh_caps 512)
 
 pub small_fresh : (bytes : List ℕ) {claimed : ℕ} → claimed ≡ count_claimed bytes → claimed ≤ 64 → (form_of bytes).number ≡ DONE
     → Fresh (book_of bytes).count (replicate 64 65536)
@@ -54,7 +54,7 @@ module _ {bytes table : List ℕ} (known : Known bytes (book_of bytes).count tab
   pub limits : (count ≤ 512) × (kinds ≤ 64)
   limits =
       let wf = book_well_formed known.good in
-      (omega (arith, wf.few_nodes_lem, count_is), omega (arith, wf.few_kinds, kinds_is))
+      (omega (arith, wf.few_nodes, count_is), omega (arith, wf.few_kinds, kinds_is))
 
 module _ {bytes table : List ℕ} (known : Known bytes (book_of bytes).count table) (judges : Judges bytes (judgement DONE 0 0 0))
     {count kinds size : ℕ}

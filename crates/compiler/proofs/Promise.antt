@@ -87,7 +87,7 @@ module _ {bytes : List ℕ} {room : ℕ} where
 plan_small : (bytes : List ℕ) → Judges bytes (judgement DONE 0 0 0) → size_of (book_of bytes) ≤ 37406
 plan_small bytes judges =
     let book = (judged-passed judges refl).by_rules.well_formed in
-    size_small (book_of bytes).count (book_of bytes).kinds book.few_nodes_lem book.few_kinds
+    size_small (book_of bytes).count (book_of bytes).kinds book.few_nodes book.few_kinds
 
 -- every answer's number is on the list: 0 to 7, 19 and 22
 pub answer_listed : {bytes : List ℕ} {room : ℕ} {a : Compiled} {p : List ℕ} → Compiles bytes room a p

@@ -16,7 +16,7 @@ use Rattle.running.specs.Running.{Plan, with_slots, emptied, StepOf, refused, An
 use Rattle.running.specs.Running.{UNKNOWN, END, RUNAWAY}
 use Rattle.running.specs.Stages.{Part, staged_event, staged_finish, staged_reading, stage_of, nodes_of}
 use Rattle.plan.specs.Form.{plan_from, plan_of, plan_count, plan_kinds, Runnable}
-use Rattle.plan.proofs.Runnable.{some_node, few_nodes_lem, start_node}
+use Rattle.plan.proofs.Runnable.{some_node, few_nodes, start_node}
 use Rattle.reader.specs.Numbers.{LONG, answered, refusal}
 use Rattle.reader.specs.Machine.{After, slot_of, stack, SlotsHold, event_of as slotsAfter}
 use Rattle.reader.specs.Reads.{Outcome, accepted_of, outcome_of, run_of, read_of}
@@ -137,12 +137,12 @@ module _ (plan : List ℕ) where
         rw (← past_on {j = call_judged plan number} refl d (opened p) called)
         (rw (stack_held (zeros drum_slots) 0 p.start 0 (omega arith) small) at
         (stands_so [] [] (set (zeros drum_slots) 0 (slot_of p.start 0)) 1
-        (started (zeros drum_slots) (few_nodes_lem runs) (start_node runs) (omega arith))
+        (started (zeros drum_slots) (few_nodes runs) (start_node runs) (omega arith))
         (ap (λ (parts : List Part). going 0 parts []) (sym (stack_held (zeros drum_slots) 0 p.start 0 (omega arith) small)))
         (omega (arith, mul-zero (2 * plan_count plan - 2))) (omega arith) (omega arith)))
       where
         small : p.start < 65536
-        small = omega (arith, few_nodes_lem runs, start_node runs)
+        small = omega (arith, few_nodes runs, start_node runs)
 
     module _ {run : List ℕ} {d : Drum} (w : Under run d) where
       -- it has few records, so it is not stale
@@ -151,7 +151,7 @@ module _ (plan : List ℕ) where
           omega (
             arith,
             w.few,
-            mul-le-mul {n₁ = 2 * plan_count plan - 2} {m₁ = length run} {n₂ = 1022} {m₂ = 65535} (omega (arith, few_nodes_lem runs)) w.short,
+            mul-le-mul {n₁ = 2 * plan_count plan - 2} {m₁ = length run} {n₂ = 1022} {m₂ = 65535} (omega (arith, few_nodes runs)) w.short,
           )
 
       sound : Sound (plan_count plan) d

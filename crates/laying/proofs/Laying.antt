@@ -142,7 +142,7 @@ module _ {bytes weights : List ℕ} {room : ℕ} (ready : Ready bytes weights ro
       omega (arith, best_weight ready.are kinded ready.short sample, head_small kinded (kinded b.start) sample.derived)
 
   pub start_inside : {start : ℕ} → start ≡ b.start → start < length weights
-  start_inside is = omega (arith, is, ready.passes.well_formed.start_below, ready.passes.well_formed.few_nodes_lem, ready.long)
+  start_inside is = omega (arith, is, ready.passes.well_formed.start_below, ready.passes.well_formed.few_nodes, ready.long)
 
   -- the node that is read is that of the part on top
   pub read_as : (n : ℕ) {node : Node} {top : ℕ} → node ≡ b.node n → n ≡ top → node ≡ b.node top
@@ -196,10 +196,10 @@ module _ {bytes weights : List ℕ} {room : ℕ} (ready : Ready bytes weights ro
 
     -- the part stands in the list, and there is room for two parts in its place
     pub place_inside : held - 1 < length parts
-    place_inside = omega (arith, visit_few, ready.passes.well_formed.few_nodes_lem, writing.long)
+    place_inside = omega (arith, visit_few, ready.passes.well_formed.few_nodes, writing.long)
 
     pub room_inside : held - 1 + 1 < length parts
-    room_inside = omega (arith, visit_few, ready.passes.well_formed.few_nodes_lem, writing.long)
+    room_inside = omega (arith, visit_few, ready.passes.well_formed.few_nodes, writing.long)
 
     module _ {node : Node} (read : node ≡ b.node top) where
       pub visit_kind : kind_of node < 64
@@ -209,7 +209,7 @@ module _ {bytes weights : List ℕ} {room : ℕ} (ready : Ready bytes weights ro
       pub visit_sides : (left_from 0 node < length weights) × (right_from 0 node < length weights)
       visit_sides =
           let proper = ready.passes.well_formed.proper top visit-inside in
-          let few = ready.passes.well_formed.few_nodes_lem in
+          let few = ready.passes.well_formed.few_nodes in
           rw read
           (omega (arith, left_zero visit-inside proper, few, ready.long), omega (arith, right_zero visit-inside proper, few, ready.long))
 

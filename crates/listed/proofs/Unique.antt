@@ -88,7 +88,7 @@ pub plan_fits : {bytes : List ℕ} {answer : Compiled} {plan : List ℕ} → Com
 plan_fits {bytes} made short =
     let (good, small) = room_short made short in
     let book = well_formed (formed bytes good) in
-    omega (arith, small, size_small (book_of bytes).count (book_of bytes).kinds book.few_nodes_lem book.few_kinds)
+    omega (arith, small, size_small (book_of bytes).count (book_of bytes).kinds book.few_nodes book.few_kinds)
 
 -- an input of more bytes than decide is too long
 long_input : (input : List ℕ) → input_room ≤ length input → shape_of input ≡ TooLong

@@ -18,7 +18,7 @@ use Rattle.syntax.proofs.ReadSheets.{read_is_a_sheet}
 use Rattle.syntax.proofs.SheetsRead.{sheet_is_read}
 use Rattle.syntax.proofs.WrongPlaces.{wrong_parts, wrong_lacks}
 use Rattle.syntax.proofs.Outcomes.{sheet_once, parts_wrong, lacks_wrong}
-use Rattle.making.specs.Makes.{judged_by, Answers, wrong_at_lem, more_due, judged}
+use Rattle.making.specs.Makes.{judged_by, Answers, wrong_at, more_due, judged}
 use Rattle.making.specs.Settled.{Refused, twice, big, kindless, Pass, PutDown, SettledAs, no_sheet, refused, passed}
 use Rattle.making.specs.declared.Settled.{Settled}
 
@@ -42,7 +42,7 @@ module _ {A : Type 0} (refuse : ℕ → ℕ → A) where
     wrong_answers {place} is = go (ltb place (length text)) refl
       where
         go : (t : Bool) → ltb place (length text) ≡ t → Answers text refuse made (refuse SHEET place)
-        go true below = wrong_at_lem (wrong_parts text is (ltb-true place (length text) below))
+        go true below = wrong_at (wrong_parts text is (ltb-true place (length text) below))
         go false past = let due = wrong_lacks text is (ltb-false place (length text) past) in rw due.0 (more_due due.1)
 
     -- every text has an answer
@@ -70,7 +70,7 @@ module _ {A : Type 0} (refuse : ℕ → ℕ → A) where
 
     answer_is : {a : A} → Answers text refuse made a → a ≡ read_answer (read_sheet text)
     unfolding read_answer
-    answer_is (wrong_at_lem parts) = rw (parts_wrong text parts)
+    answer_is (wrong_at parts) = rw (parts_wrong text parts)
     answer_is (more_due lacks) = rw (lacks_wrong text lacks)
     answer_is (judged read) = rw (sheet_is_read text read)
 

@@ -122,11 +122,11 @@ module _ {text nodes rows kinds : List ℕ} {first : Rule} {further : List Rule}
       record {
         nodes_down = put.nodes_down;
         rules_down = put.rules_down;
-        few_nodes_lem = omega (arith, put.nodes_are, well_formed.few_nodes_lem);
+        few_nodes = omega (arith, put.nodes_are, well_formed.few_nodes);
         some_rule = omega (arith, put.rules_are);
         small_start = start_small small_body;
         small_nodes = λ n below. rw zero-add at (below_each _ s.nodes 0 n below (nodes_small small_body));
-        names = record { kinds_down = put.kinds_down; few_kinds = omega (arith, many_is, well_formed.few_kinds); name_at_lem = name_stands };
+        names = record { kinds_down = put.kinds_down; few_kinds = omega (arith, many_is, well_formed.few_kinds); name_at = name_stands };
       }
     where
       start_small : {k start : ℕ} {more : List ℕ} → Below 65536 (k ∷ start ∷ more) → start < 65536

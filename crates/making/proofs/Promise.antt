@@ -25,7 +25,7 @@ use Rattle.sheets.specs.Made.{SHEET, TWICE, BIG, KINDLESS, repeats, repeated_at,
 use Rattle.sheets.proofs.Appearance.{kinds_by_first_appearance}
 use Rattle.sheets.proofs.Derived.{book_derives_the_meaning}
 use Rattle.sheets.proofs.Formed.{book_well_formed}
-use Rattle.making.specs.Makes.{judged_by, Answers, wrong_at_lem, more_due, judged, made_of, Makes, place_of, Places}
+use Rattle.making.specs.Makes.{judged_by, Answers, wrong_at, more_due, judged, made_of, Makes, place_of, Places}
 use Rattle.making.specs.Made.{BookOfSheet, BookMade, MakeAnswers, NoSheetAt}
 use Rattle.making.specs.Settled.{Refused, twice, big, kindless, Pass}
 use Rattle.making.proofs.Passing.{kinds_good}
@@ -84,7 +84,7 @@ unfolding handed
 handed_short bytes room short = rw short
 
 outcome : {text : List ℕ} (room : ℕ) {o : Out} → Makes text room o → Outcome text room o
-outcome room (wrong_at_lem parts) = parted parts refl
+outcome room (wrong_at parts) = parted parts refl
 outcome room (more_due lacks) = lacking lacks refl
 outcome {text} room (judged {first} {further} read) = go (judge (first ∷ further))
   where
@@ -248,5 +248,5 @@ sheet_refused_at text room {o} makes i = (λ t. go t.0 t.1 (outcome room makes),
     told here is = (number_of is, place_of_lem is ∙ here)
 
     back : NoSheetAt text i → (o.answer.number ≡ SHEET) × (o.answer.place ≡ i)
-    back (inl parts) = told refl (makes_once text room makes (wrong_at_lem parts))
+    back (inl parts) = told refl (makes_once text room makes (wrong_at parts))
     back (inr (lacks, here)) = told (sym here) (makes_once text room makes (more_due lacks))

@@ -22,7 +22,7 @@ pub record NameAt (text : List ℕ) (place : ℕ) : Type 0 where
 pub record ShortNames (text kinds : List ℕ) (many : ℕ) : Type 0 where
   pub kinds_down : many ≤ length kinds
   pub few_kinds : many ≤ 64
-  pub name_at_lem : (k : ℕ) → k < many → NameAt text (get_or kinds k 0)
+  pub name_at : (k : ℕ) → k < many → NameAt text (get_or kinds k 0)
 
 -- the names of so many kinds
 abbrev pub kind_bytes : List ℕ → List ℕ → ℕ → List ℕ
@@ -44,7 +44,7 @@ module _ (text nodes : List ℕ) (count : ℕ) (rows : List ℕ) (rules : ℕ) (
   pub record Writable : Type 0 where
     pub nodes_down : 4 * count ≤ length nodes
     pub rules_down : 2 * rules ≤ length rows
-    pub few_nodes_lem : count ≤ 512
+    pub few_nodes : count ≤ 512
     pub some_rule : 1 ≤ rules
     pub small_start : get_or rows 1 0 < 65536
     pub small_nodes : (n : ℕ) → n < count → Below 65536 (words_of_node text rows rules kinds many nodes n)

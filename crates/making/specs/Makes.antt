@@ -19,7 +19,7 @@ judged_by refused made rules =
 -- what a text comes to: 26 at the first byte at which no sheet begins so, or at the length where more is due; or what
 -- its rules come to
 pub data Answers (text : List ℕ) {A : Type 0} (refused : ℕ → ℕ → A) (made : Rule → List Rule → A) : A → Type 0 where
-  wrong_at_lem : {i : ℕ} → Parts IsSheet text i → Answers text refused made (refused SHEET i)
+  wrong_at : {i : ℕ} → Parts IsSheet text i → Answers text refused made (refused SHEET i)
   more_due : Lacks IsSheet text → Answers text refused made (refused SHEET (length text))
   judged : {first : Rule} {further : List Rule}
       → Sheet text first further

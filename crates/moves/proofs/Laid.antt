@@ -47,8 +47,8 @@ module _ (bytes : List ℕ) (done : (form_of bytes).number ≡ DONE) where
   kinds = book.kinds
 
   -- a book of good form: how much of it there is, and where its settings and nodes stand
-  pub few_nodes_lem : count ≤ 512
-  few_nodes_lem = (well_formed (formed bytes done)).few_nodes_lem
+  pub few_nodes : count ≤ 512
+  few_nodes = (well_formed (formed bytes done)).few_nodes
 
   pub few_kinds : kinds ≤ 64
   few_kinds = (well_formed (formed bytes done)).few_kinds

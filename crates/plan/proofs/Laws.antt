@@ -26,20 +26,20 @@ use Rattle.plan.specs.Rows.{one_cell, other_cell}
 
 -- the size of a plan of good count and kinds
 pub size_small : (count kinds : ℕ) → count ≤ 512 → kinds ≤ 64 → plan_size count kinds ≤ 37406
-size_small count kinds few_nodes_lem few_kinds =
-    omega (arith, mul-le-mul {n₁ = count} {m₁ = kinds + 1} {n₂ = 512} {m₂ = 65} few_nodes_lem (omega arith))
+size_small count kinds few_nodes few_kinds =
+    omega (arith, mul-le-mul {n₁ = count} {m₁ = kinds + 1} {n₂ = 512} {m₂ = 65} few_nodes (omega arith))
 
 -- what a good length says
 pub record Sized (size count kinds : ℕ) : Type 0 where
   pub is : size ≡ plan_size count kinds
   pub some_node : 0 < count
-  pub few_nodes_lem : count ≤ 512
+  pub few_nodes : count ≤ 512
 
 pub sized : (size count kinds : ℕ) → size_good size count kinds ≡ true → Sized size count kinds
 sized size count kinds good =
     let (front, most) = both (eqb size (plan_size count kinds) && leb 1 count) _ good in
     let (is, least) = both (eqb size (plan_size count kinds)) _ front in
-    record { is = eqb-true _ _ is; some_node = leb-true _ _ least; few_nodes_lem = leb-true _ _ most }
+    record { is = eqb-true _ _ is; some_node = leb-true _ _ least; few_nodes = leb-true _ _ most }
 
 -- what the tests of a plan of good form have shown, cells aside
 pub record Formed (bytes : List ℕ) : Type 0 where
@@ -69,7 +69,7 @@ formed bytes good =
       few_kinds = leb-true _ _ most;
       start_below = ltb-true _ _ below;
       good =
-          good_nodes bytes plan_nodes_at _ _ (omega (arith, size.is)) size.few_nodes_lem (leb-true _ _ most)
+          good_nodes bytes plan_nodes_at _ _ (omega (arith, size.is)) size.few_nodes (leb-true _ _ most)
           (first_none _ _ (leb-true _ _ all));
     }
 
@@ -78,7 +78,7 @@ pub formed_size : {bytes : List ℕ} → Formed bytes
     → (plan_size (plan_count bytes) (plan_kinds bytes) ≤ length bytes) × (plan_size (plan_count bytes) (plan_kinds bytes) < 65536)
 formed_size {bytes} f =
     let size = f.size in
-    (omega arith, omega (arith, size_small (plan_count bytes) (plan_kinds bytes) size.few_nodes_lem f.few_kinds))
+    (omega arith, omega (arith, size_small (plan_count bytes) (plan_kinds bytes) size.few_nodes f.few_kinds))
 
 -- bytes too few for settings are no plan
 pub short_bad : (bytes : List ℕ) (count kinds : ℕ) → length bytes < plan_nodes_at → plan_good bytes count kinds ≡ false

@@ -77,7 +77,7 @@ module _ (bytes : List ℕ) (good : (plan_judged bytes).number ≡ DONE) where
 
   -- a node stands in the bytes, and its number is small
   pub node_inside : {n : ℕ} → n < plan_count bytes → (plan_nodes_at + 6 * n + 6 ≤ length bytes) × (n < 512)
-  node_inside below = let size = shown.formed_is.size in omega (arith, size.is, size.few_nodes_lem)
+  node_inside below = let size = shown.formed_is.size in omega (arith, size.is, size.few_nodes)
 
   -- a row's cell for a kind sends a walk to the node's fields
   module _ (n : ℕ) (below : n < plan_count bytes) (kind : ℕ) (known : kind < plan_kinds bytes) where
@@ -117,8 +117,8 @@ module _ {bytes : List ℕ} {count kinds : ℕ} (runs : Runnable bytes count kin
   pub some_node : 0 < count
   some_node = rw runs.count_is all.formed_is.size.some_node
 
-  pub few_nodes_lem : count ≤ 512
-  few_nodes_lem = rw runs.count_is all.formed_is.size.few_nodes_lem
+  pub few_nodes : count ≤ 512
+  few_nodes = rw runs.count_is all.formed_is.size.few_nodes
 
   pub few_kinds : kinds ≤ 64
   few_kinds = rw runs.kinds_is all.formed_is.few_kinds
@@ -137,7 +137,7 @@ module _ {bytes : List ℕ} {count kinds : ℕ} (runs : Runnable bytes count kin
       omega (
         arith,
         size,
-        size_small count kinds few_nodes_lem few_kinds,
+        size_small count kinds few_nodes few_kinds,
         digits_lt {q = n} {m = count} {r = column} {c = kinds + 1} below (omega arith),
       )
 
@@ -145,7 +145,7 @@ module _ {bytes : List ℕ} {count kinds : ℕ} (runs : Runnable bytes count kin
   pub due_inside : {n : ℕ} → n < count → (due_at count kinds n + 1 < length bytes) × (length bytes < 65536)
   due_inside {n} below =
       let size : length bytes ≡ row_at count kinds count + 2 * count = rw (runs.count_is, runs.kinds_is) all.formed_is.size.is in
-      omega (arith, size, size_small count kinds few_nodes_lem few_kinds)
+      omega (arith, size, size_small count kinds few_nodes few_kinds)
 
   -- what the sides of a node are asked with, where the node has a cell that is at least a number
   pub side_asks : {n kind : ℕ} (least : ℕ) → n < count → kind < kinds → least ≤ (plan_from bytes count kinds).cell n kind

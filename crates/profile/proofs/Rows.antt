@@ -29,7 +29,7 @@ use Rattle.profile.specs.Profiles.{UNBOUNDED, SLOTS, depth, Measures, refused, u
 
 -- a table of zeros for any book of good form
 pub table-blank : (bytes : List ℕ) → (form_of bytes).number ≡ DONE → Blank (table_size (book_of bytes).count) (zeros 2048)
-table-blank bytes good = blank_less (omega (arith, (well_formed (formed bytes good)).few_nodes_lem)) (blank-zeros 2048)
+table-blank bytes good = blank_less (omega (arith, (well_formed (formed bytes good)).few_nodes)) (blank-zeros 2048)
 
 -- a book whose facts are known can be weighed, in blank weights for 512 nodes
 pub weighable : {bytes table weights : List ℕ} {count : ℕ} → count ≡ (book_of bytes).count → Known bytes (book_of bytes).count table
@@ -70,8 +70,8 @@ module _ {bytes list : List ℕ} {count start : ℕ} (judges : Judges bytes (jud
   start_unbounded most =
       unbounded judges
       (greatest_none passes (marks (book_of bytes) wf) (marks_are (book_of bytes) wf)
-      (heavy_unbounded (book_of bytes) wf tested (omega (arith, wf.few_nodes_lem))
-      (heavy (book_of bytes).count (omega (arith, wf.few_nodes_lem)) (omega (arith, wf.few_nodes_lem, most)))))
+      (heavy_unbounded (book_of bytes) wf tested (omega (arith, wf.few_nodes))
+      (heavy (book_of bytes).count (omega (arith, wf.few_nodes)) (omega (arith, wf.few_nodes, most)))))
 
   -- below: the number
   pub start_measured : get_or list start 0 < MOST → Measures bytes (depth DONE 0 (held_by (get_or list start 0)))

@@ -227,9 +227,9 @@ module _ (plan run : List ℕ) (slots room other : ℕ) where
       ∙ outcome-refused _ (rw here at refusal)
       ∙ ap (λ (o : Outcome). bare other o.reading) (sym here)
 
-  pub refused_room_lem : Stopped (read_of plan run slots room).reading.number
+  pub refused_room : Stopped (read_of plan run slots room).reading.number
       → read_of plan run slots other ≡ bare other (read_of plan run slots room).reading
-  refused_room_lem refusal = refused_by (course plan run slots) refusal
+  refused_room refusal = refused_by (course plan run slots) refusal
 
 -- a call from its outcome
 called : {plan run held tree : List ℕ} {r : Reading} {after : List ℕ} → read_of plan run (length held) (length tree) ≡ outcome r after
@@ -253,7 +253,7 @@ module _ {plan run held tree : List ℕ} {r : Reading} {held_after after : List 
   stopped_longer more tree' slots few refusal is =
       let number : (read_of plan run slots (length tree)).reading.number ≡ r.number = ap (λ (o : Outcome). o.reading.number) is in
       let other : read_of plan run slots (length tree') ≡ bare (length tree') r =
-      refused_room_lem plan run slots (length tree) (length tree') (rw number refusal) ∙ ap (λ (o : Outcome). bare (length tree') o.reading) is in
+      refused_room plan run slots (length tree) (length tree') (rw number refusal) ∙ ap (λ (o : Outcome). bare (length tree') o.reading) is in
       events_more plan run more slots (length tree') few (rw other refusal) ∙ other
 
   -- where the tree had no room

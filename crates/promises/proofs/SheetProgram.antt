@@ -37,8 +37,8 @@ pub sheet_answers_once : (buffer : List ℕ) (size : ℕ) (out book plan : List 
 sheet_answers_once buffer size out book plan one other = answers_unique buffer size out book plan one other
 
 -- its book buffer holds every book that a sheet makes: 21 never shows
-pub sheet_room_lem : {sheet : List ℕ} {o : Out} → Makes sheet longest_book o → o.answer.number ≢ OUT-ROOM
-sheet_room_lem makes = book_fits makes
+pub sheet_room : {sheet : List ℕ} {o : Out} → Makes sheet longest_book o → o.answer.number ≢ OUT-ROOM
+sheet_room makes = book_fits makes
 
 -- the place of the node that the compiler names is told: asking for it never fails
 pub sheet_place_told : (sheet : List ℕ) {o : Out} {a : Compiled} {plan : List ℕ} {from : Written}

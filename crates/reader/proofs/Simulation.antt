@@ -13,7 +13,7 @@ use Rattle.running.specs.Running.{Plan, with_slots, Move, refuse, take_event, go
 use Rattle.running.specs.Running.{StepOf, taken, refused, noted, take_off, DEEP, UNKNOWN, UNEXPECTED}
 use Rattle.running.specs.Stages.{Part, part, inside, staged_visit, staged_walk, staged_event}
 use Rattle.plan.specs.Form.{plan_from, Runnable}
-use Rattle.plan.proofs.Runnable.{few_nodes_lem, left_node, right_node, tag_label}
+use Rattle.plan.proofs.Runnable.{few_nodes, left_node, right_node, tag_label}
 use Rattle.reader.specs.Machine.{After, SlotsHold, Go, stands, slot_of, node_in, label_in, stack, visit_of, off_of, walk_of, take_of, event_of}
 use Rattle.reader.proofs.Slots.{stack-length, stack_held, held_more, held_less}
 
@@ -59,7 +59,7 @@ pub record Bounded (p : Plan) : Type 0 where
 pub bounded : {bytes : List ℕ} {count kinds : ℕ} → Runnable bytes count kinds → Bounded (plan_from bytes count kinds)
 unfolding plan_from
 bounded runs =
-    record { few = few_nodes_lem runs; left_below = left_node runs; right_below = right_node runs; tag_small = tag_label runs }
+    record { few = few_nodes runs; left_below = left_node runs; right_below = right_node runs; tag_small = tag_label runs }
 
 -- the label inside a node is small where that around it is
 pub inside_small : {p : Plan} → Bounded p → (n outer : ℕ) → outer < 65536 → inside (p.tag n) outer < 65536

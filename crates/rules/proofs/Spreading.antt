@@ -97,14 +97,14 @@ module _ {bytes : List ℕ} {base count n l r : ℕ} {at : Node} {before between
   is = sym (node_is good below read)
 
   l_in : l / 64 < length before
-  l_in = omega (arith, left-inside good below read, good.few_nodes_lem)
+  l_in = omega (arith, left-inside good below read, good.few_nodes)
 
   module _ (start : ℕ) (sound : Sound masks (ReachAt (nodes bytes base count) start) before) where
     first : Grown masks (ReachAt (nodes bytes base count) start) before between c
     first = mark_grown l_in left (rw l-is (reach_left (marked_reach sound here) at is))
 
     r_in : r / 64 < length between
-    r_in = omega (arith, right_inside good below read, good.few_nodes_lem, first.long)
+    r_in = omega (arith, right_inside good below read, good.few_nodes, first.long)
 
     second : Grown masks (ReachAt (nodes bytes base count) start) between after d
     second = mark_grown r_in right (rw r-is (reach_right (marked_reach sound here) at is))

@@ -37,7 +37,7 @@ hands_out {bytes} {room} samples hands =
 
 -- a blank table for the facts of a book of good form
 pub table-blank : (bytes : List ℕ) → (form_of bytes).number ≡ DONE → Blank (table_size (book_of bytes).count) (zeros 2048)
-table-blank bytes good = blank_less (omega (arith, (well_formed (formed bytes good)).few_nodes_lem)) (blank-zeros 2048)
+table-blank bytes good = blank_less (omega (arith, (well_formed (formed bytes good)).few_nodes)) (blank-zeros 2048)
 
 -- the weight that is read is that of the start
 pub weight_is : (weights : List ℕ) {weight n start : ℕ} → weight ≡ weight_at weights n → n ≡ start → weight ≡ weight_at weights start
@@ -51,7 +51,7 @@ module _ {bytes : List ℕ} (good : Judges bytes (judgement DONE 0 0 0)) where
   good_form = (passed good refl).form
 
   pub weights_reach : {start long : ℕ} → start ≡ (book_of bytes).start → long ≡ 512 → start < long
-  weights_reach is whole = omega (arith, is, whole, passes.well_formed.start_below, passes.well_formed.few_nodes_lem)
+  weights_reach is whole = omega (arith, is, whole, passes.well_formed.start_below, passes.well_formed.few_nodes)
 
   module _ {base count : ℕ} (base-is : base ≡ nodes_at bytes) (count_is : count ≡ (book_of bytes).count) where
     good_book : GoodBook bytes count

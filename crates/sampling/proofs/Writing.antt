@@ -264,7 +264,7 @@ module _ (b : Book) (passes : Passes b) (weights : List ℕ) (are : Weights b.no
       }
       at (no heavy) =
           let w = written_node b.node b.count wf.beyond (book_kinded b wf) passes.no_conflict
-          (λ n k d. omega (arith, size_below b wf passes.no_conflict d, wf.few_nodes_lem)) (λ n k d. first_below b wf refl d) weights are
+          (λ n k d. omega (arith, size_below b wf passes.no_conflict d, wf.few_nodes)) (λ n k d. first_below b wf refl d) weights are
           b.start (omega arith) below in
           record {
             run = w.run;

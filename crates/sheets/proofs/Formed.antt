@@ -114,7 +114,7 @@ book_well_formed first further small some =
     let positive = size_positive first.expression in
     record {
       some_node = omega arith;
-      few_nodes_lem = ltb-false _ _ t.0;
+      few_nodes = ltb-false _ _ t.0;
       some_kind = some;
       few_kinds = ltb-false _ _ t.1;
       start_below = omega arith;

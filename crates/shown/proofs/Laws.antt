@@ -98,7 +98,7 @@ module _ {bytes : List ℕ} (form : (form_of bytes).number ≡ DONE) where
   -- so the compiler's numbers are small
   pub small_answer : {room : ℕ} {answer : Compiled} {plan : List ℕ} → Compiles bytes room answer plan → Small answer
   small_answer {answer = answer} made =
-      let few = (well_formed (formed bytes form)).few_nodes_lem in
+      let few = (well_formed (formed bytes form)).few_nodes in
       record {
         number = listed (answer_listed made);
         place = omega (arith, node_below made);

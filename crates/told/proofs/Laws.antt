@@ -96,13 +96,13 @@ module _ {bytes : List ℕ} (b : NamedBook bytes) where
   node_short n few (tagged_is {l = l} {t} low label) =
       simp length-append (omega (arith, few_digits l (omega arith), label_digits t label.1))
   node_short n few (ref_is {l = l} low) =
-      let many = (well_formed (formed bytes b.form)).few_nodes_lem in
+      let many = (well_formed (formed bytes b.form)).few_nodes in
       omega (arith, few_digits l (omega arith))
 
   line_short : (n : ℕ) → n < (book_of bytes).count → length (node_line bytes n) ≤ 32
   unfolding node_line
   line_short n below =
-      let many = (well_formed (formed bytes b.form)).few_nodes_lem in
+      let many = (well_formed (formed bytes b.form)).few_nodes in
       simp length-append (omega (arith, few_digits n (omega arith), node_short n (omega arith) (node_proper b n below)))
 
   -- all lines of a book
@@ -112,5 +112,5 @@ module _ {bytes : List ℕ} (b : NamedBook bytes) where
       let w = well_formed (formed bytes b.form) in
       let kinds = lists_short (kind_line bytes) 26 (book_of bytes).kinds 0 (λ m below. kind_short m (omega arith)) in
       let nodes = lists_short (node_line bytes) 32 (book_of bytes).count 0 (λ m below. line_short m (omega arith)) in
-      let start = few_digits (book_of bytes).start (omega (arith, w.start_below, w.few_nodes_lem)) in
-      simp length-append (omega (arith, w.few_kinds, w.few_nodes_lem, kinds, nodes, start))
+      let start = few_digits (book_of bytes).start (omega (arith, w.start_below, w.few_nodes)) in
+      simp length-append (omega (arith, w.few_kinds, w.few_nodes, kinds, nodes, start))

@@ -49,7 +49,7 @@ module _ {b : Book} (formed : WellFormed b) where
   below n some = go (ltb n b.count) refl
     where
       go : (t : Bool) → ltb n b.count ≡ t → n < 32768
-      go true e = omega (arith, ltb-true n b.count e, formed.few_nodes_lem)
+      go true e = omega (arith, ltb-true n b.count e, formed.few_nodes)
       go false e = absurd (some (formed.beyond n (ltb-false n b.count e)))
 
   pub first_small : {n k : ℕ} → First b.node (b.node n) k → n < 32768

@@ -13,7 +13,7 @@ pub record Tree (b : Book) (records : List ℕ) : Type 0 where
 
 -- where records are wrong: at the first at which no tree begins so, or at their count where more is due
 pub data Wrong (b : Book) (records : List ℕ) : ℕ → Type 0 where
-  wrong_at_lem : {i : ℕ} → Parts (Tree b) records i → Wrong b records i
+  wrong_at : {i : ℕ} → Parts (Tree b) records i → Wrong b records i
   more_due : Lacks (Tree b) records → Wrong b records (length records)
 
 -- whether a record is an empty one

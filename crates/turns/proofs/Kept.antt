@@ -63,7 +63,7 @@ pub kind_small : (bytes : List ℕ) → (form_of bytes).number ≡ DONE → (n :
 kind_small bytes form n below = let f = well_formed (formed bytes form) in proper_kind f.few_kinds (f.proper n below)
 
 pub count_few : (bytes : List ℕ) → (form_of bytes).number ≡ DONE → (book_of bytes).count ≤ 512
-count_few bytes form = (well_formed (formed bytes form)).few_nodes_lem
+count_few bytes form = (well_formed (formed bytes form)).few_nodes
 
 -- the right of a then is kept
 pub keep_both : (spot : Spot) (due : Due) (slots : List ℕ) {l r : ℕ} → due ≡ Both l r → hold_of spot r slots ≡ keep_of spot due slots

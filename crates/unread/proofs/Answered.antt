@@ -18,7 +18,7 @@ use Rattle.rules.proofs.Marks.{nullable_decided, first_decided}
 use Rattle.verdict.proofs.Some.{decide, search}
 use Rattle.meaning.specs.Meaning.{Accepts}
 use Rattle.trees.specs.declared.Due.TheVariants.{Part}
-use Rattle.trees.specs.Trees.{Tree, Wrong, wrong_at_lem, more_due, events}
+use Rattle.trees.specs.Trees.{Tree, Wrong, wrong_at, more_due, events}
 use Rattle.trees.specs.Machine.{Powers, PowersOf, State, state, allows, goes, reads, read_tree}
 use Rattle.trees.proofs.ReadTrees.{tree_is_read, read_on}
 use Rattle.trees.proofs.Places.{wrong_parts, due_lacks, nothing_due_tree}
@@ -60,13 +60,13 @@ module _ (b : Book) (wf : WellFormed b) where
 module _ {b : Book} where
   -- records that are wrong are no tree, and wrong at one place
   pub wrong_no_tree : {run records : List ℕ} {i : ℕ} → Wrong b records i → Accepts b run records → ⊥
-  wrong_no_tree (wrong_at_lem parts) a = parts_not_in parts (record { run = _; accepts = a })
+  wrong_no_tree (wrong_at parts) a = parts_not_in parts (record { run = _; accepts = a })
   wrong_no_tree (more_due lacks) a = lacks.unfinished (record { run = _; accepts = a })
 
   pub wrong_once : {records : List ℕ} {i j : ℕ} → Wrong b records i → Wrong b records j → i ≡ j
-  wrong_once (wrong_at_lem p) (wrong_at_lem q) = parts_once p q
-  wrong_once (wrong_at_lem p) (more_due l) = absurd (parts_not_lacks p l)
-  wrong_once (more_due l) (wrong_at_lem p) = absurd (parts_not_lacks p l)
+  wrong_once (wrong_at p) (wrong_at q) = parts_once p q
+  wrong_once (wrong_at p) (more_due l) = absurd (parts_not_lacks p l)
+  wrong_once (more_due l) (wrong_at p) = absurd (parts_not_lacks p l)
   wrong_once (more_due l) (more_due m) = refl
 
   module _ (passes : Passes b) where
@@ -108,4 +108,4 @@ module _ {b : Book} where
           go : ((s : State) × (read_tree b (powers b wf) (take (length records) records) ≡ goes s)) ⊎ ((j : ℕ) × Parts (Tree b) records j)
               → ((run : List ℕ) × Accepts b run records) ⊎ ((i : ℕ) × Wrong b records i)
           go (inl r) = whole? r.0 (rw (take-length records) at r.1) (is_nothing r.0.due) refl
-          go (inr p) = inr (p.0, wrong_at_lem p.1)
+          go (inr p) = inr (p.0, wrong_at p.1)

@@ -15,7 +15,7 @@ use Rattle.book.specs.declared.Node.TheVariants.{Fail, Empty, Token, Either, The
 use Rattle.grammar.specs.Passing.{Passes}
 use Rattle.trees.specs.declared.Due.{Due}
 use Rattle.trees.specs.declared.Due.TheVariants.{Nothing, Part, Taking, OneOf, Both}
-use Rattle.trees.specs.Trees.{is_emptied, own_events, events_at, events, Wrong, wrong_at_lem, more_due}
+use Rattle.trees.specs.Trees.{is_emptied, own_events, events_at, events, Wrong, wrong_at, more_due}
 use Rattle.trees.specs.Machine.{Powers, PowersOf, State, state, next, opened, kept, lapsed, allows, behind, goes, reads, read_tree}
 use Rattle.trees.proofs.ReadTrees.{read_before}
 use Rattle.trees.proofs.Places.{wrong_parts, due_lacks, nothing_due_tree}
@@ -241,7 +241,7 @@ module _ {b : Book} (passes : Passes b) {powers : Powers} (known : PowersOf b.no
       → Comes b records before (outcome false at 0) after
   stopped below bars =
       record {
-        wrong = λ is. wrong_at_lem (wrong_parts passes known records at below way.stands.reads_to bars);
+        wrong = λ is. wrong_at (wrong_parts passes known records at below way.stands.reads_to bars);
         right = λ is. never is;
         counted = λ is. never is;
         stand = λ is. never is;

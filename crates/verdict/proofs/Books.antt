@@ -17,7 +17,7 @@ use Rattle.verdict.specs.Conflicts.{GoodBook, Known}
 
 -- a table of zeros for any book of good form
 pub table-blank : (bytes : List ℕ) → (form_of bytes).number ≡ DONE → Blank (table_size (book_of bytes).count) (zeros 2048)
-table-blank bytes good = blank_less (omega (arith, (well_formed (formed bytes good)).few_nodes_lem)) (blank-zeros 2048)
+table-blank bytes good = blank_less (omega (arith, (well_formed (formed bytes good)).few_nodes)) (blank-zeros 2048)
 
 -- and a small one for a book of good form that claims few nodes
 pub small_blank : (bytes : List ℕ) {claimed : ℕ} → claimed ≡ count_claimed bytes → claimed ≤ 64 → (form_of bytes).number ≡ DONE
@@ -42,7 +42,7 @@ module _ {bytes : List ℕ} {count : ℕ} (good : GoodBook bytes count) where
   book_well_formed = well_formed form
 
   pub count_small : count ≤ 512
-  count_small = omega (arith, book_well_formed.few_nodes_lem, good.count_is)
+  count_small = omega (arith, book_well_formed.few_nodes, good.count_is)
 
   pub start_below : {start : ℕ} → start ≡ (book_of bytes).start → start < count
   start_below is = omega (arith, book_well_formed.start_below, good.count_is)
@@ -54,7 +54,7 @@ module _ {bytes : List ℕ} {count : ℕ} (good : GoodBook bytes count) where
       rw good.count_is
       (record {
         within = form.good.within;
-        few_nodes_lem = form.good.few_nodes_lem;
+        few_nodes = form.good.few_nodes;
         few_kinds = omega arith;
         proper = λ n below. proper_wider form.few_kinds (form.good.proper n below);
       })

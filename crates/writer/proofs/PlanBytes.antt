@@ -146,7 +146,7 @@ module _ (book : Book) (marks : Marks) where
 
   module _ (formed : WellFormed book) where
     small : plan_size count kinds < 65536
-    small = omega (arith, size_small count kinds formed.few_nodes_lem formed.few_kinds)
+    small = omega (arith, size_small count kinds formed.few_nodes formed.few_kinds)
 
     -- contents, settings and nodes
     pub count_is : plan_count plan ≡ count

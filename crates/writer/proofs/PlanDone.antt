@@ -61,7 +61,7 @@ module _ (book : Book) (marks : Marks) (formed : WellFormed book) where
   size_good_lem : size_good (length plan) count kinds ≡ true
   size_good_lem =
       joined _ _ (joined _ _ (eq-eqb _ _ (size_is book marks)) (le-leb 1 _ formed.some_node))
-      (le-leb _ 512 formed.few_nodes_lem)
+      (le-leb _ 512 formed.few_nodes)
 
   form_good : plan_good plan count kinds ≡ true
   unfolding plan_good

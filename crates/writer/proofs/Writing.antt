@@ -73,7 +73,7 @@ module _ {book table plan : List ℕ} {count kinds : ℕ} (w : Writable book tab
   few_kinds = rw w.kinds_is formed_book.few_kinds
 
   pub small_size : plan_size count kinds < 65536
-  small_size = omega (arith, size_small count kinds (rw w.count_is formed_book.few_nodes_lem) few_kinds)
+  small_size = omega (arith, size_small count kinds (rw w.count_is formed_book.few_nodes) few_kinds)
 
   pub row_fits : {n at : ℕ} → n < count → at ≡ row_at count kinds n → at + (kinds + 1) ≤ length plan
   row_fits below is = omega (arith, w.plan_long, row_within count kinds below)

@@ -72,7 +72,7 @@ first_bad-bad-requires c =
 
 pub overflow_cast-result : goal.overflow_cast-result
 overflow_cast-result c =
-    omega (arith, c.if-bad-count.true, c.count_of-count.ensures, (size_is (goal.at.overflow_cast-result c).Else-not-contents_good).few_nodes_lem)
+    omega (arith, c.if-bad-count.true, c.count_of-count.ensures, (size_is (goal.at.overflow_cast-result c).Else-not-contents_good).few_nodes)
 
 pub returns-then-bad-count : goal.returns-then-bad-count
 returns-then-bad-count c =
@@ -87,11 +87,11 @@ overflow_add-settings-2 c = omega (arith, c.settings_at-settings.ensures.1)
 
 pub overflow_mul-count : goal.overflow_mul-count
 overflow_mul-count c =
-    omega (arith, c.count_of-count.ensures, (size_is (goal.at.overflow_mul-count c).Else-not-contents_good).few_nodes_lem)
+    omega (arith, c.count_of-count.ensures, (size_is (goal.at.overflow_mul-count c).Else-not-contents_good).few_nodes)
 
 pub overflow_add-settings-3 : goal.overflow_add-settings-3
 overflow_add-settings-3 c =
-    omega (arith, c.settings_at-settings.ensures.1, c.count_of-count.ensures, (size_is (goal.at.overflow_add-settings-3 c).Else-not-contents_good).few_nodes_lem)
+    omega (arith, c.settings_at-settings.ensures.1, c.count_of-count.ensures, (size_is (goal.at.overflow_add-settings-3 c).Else-not-contents_good).few_nodes)
 
 pub names_form-requires : goal.names_form-requires
 names_form-requires c =

@@ -12,12 +12,12 @@ count_of-requires c = (nodes_begin (formed _ c.requires)).0
 
 pub overflow_mul-result : goal.overflow_mul-result
 overflow_mul-result c =
-    omega (arith, c.count_of.ensures, (formed c.args.book.now c.requires).size.few_nodes_lem)
+    omega (arith, c.count_of.ensures, (formed c.args.book.now c.requires).size.few_nodes)
 
 pub overflow_add-result : goal.overflow_add-result
 overflow_add-result c =
     let book = c.args.book.now in
-    omega (arith, c.nodes_from.ensures, settings_between book, c.count_of.ensures, (formed book c.requires).size.few_nodes_lem)
+    omega (arith, c.nodes_from.ensures, settings_between book, c.count_of.ensures, (formed book c.requires).size.few_nodes)
 
 pub returns : goal.returns
 returns c = rw (c.nodes_from.ensures, c.count_of.ensures)

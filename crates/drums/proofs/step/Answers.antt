@@ -5,7 +5,7 @@ use native.Mathlib.Numerals.{add-one}
 use native.Mathlib.Omega.{arith}
 use Rattle.book.specs.Form.{DONE}
 use Rattle.plan.specs.Form.{plan_from}
-use Rattle.plan.proofs.Runnable.{few_nodes_lem}
+use Rattle.plan.proofs.Runnable.{few_nodes}
 use Rattle.reader.specs.declared.Reading.{Reading}
 use Rattle.reader.specs.Machine.{After, after}
 use Rattle.reader.proofs.Bounds.{Safe}
@@ -55,7 +55,7 @@ safe v done =
 pub overflow_cast-spot : goal.overflow_cast-spot
 overflow_cast-spot c =
     let pre = c.requires in
-    omega (arith, (safe (goal.at.overflow_cast-spot c).After-take_event-spot c.if-spot-ne-DONE.false).records, pre.1.few_records, pre.1.parts.few, few_nodes_lem pre.0)
+    omega (arith, (safe (goal.at.overflow_cast-spot c).After-take_event-spot c.if-spot-ne-DONE.false).records, pre.1.few_records, pre.1.parts.few, few_nodes pre.0)
 
 pub go_on-requires : goal.go_on-requires
 go_on-requires c =

@@ -9,7 +9,7 @@ pub put_name-at-requires : goal.put_name-at-requires
 put_name-at-requires c =
     let turn = c.loop-k in
     let below = c.loop-k-test.true in
-    (c.requires.0.name_at_lem turn.k below, name_fits _ _ _ turn.invariant below)
+    (c.requires.0.name_at turn.k below, name_fits _ _ _ turn.invariant below)
 
 pub loop-k-preserved : goal.loop-k-preserved
 loop-k-preserved c =

@@ -9,7 +9,7 @@ use Rattle.written.specs.Written.{written, with_zeros}
 use Rattle.written.proofs.Handing.{clear_long, clear_is, no_room, room_enough_lem, hands_as}
 use Rattle.book.specs.Form.{book_of}
 use Rattle.moves.specs.Moves.{named_of}
-use Rattle.moves.proofs.Laid.{few_nodes_lem, end_small, end_within, named_long}
+use Rattle.moves.proofs.Laid.{few_nodes, end_small, end_within, named_long}
 use Rattle.moves.proofs.hand_named.Goals as goal
 use Rattle.moves.proofs.hand_named.Goals.{After-count_in}
 
@@ -24,7 +24,7 @@ end_is c = c.name_at-end.ensures ∙ ap (name_at c.args.house.now 0) c.kinds_in.
 small : (c : After-count_in) → (c.count_in.result ≤ 512) × (c.name_at-end.result ≤ 1088)
 small c =
     let before = c.requires in (
-      omega (arith, c.count_in.ensures, few_nodes_lem _ before.0),
+      omega (arith, c.count_in.ensures, few_nodes _ before.0),
       omega (arith, end_is c, end_small _ before.0 _ before.1),
     )
 

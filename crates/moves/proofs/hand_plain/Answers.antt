@@ -7,7 +7,7 @@ use lib.ListN.{length}
 use Rattle.written.specs.Written.{written, with_zeros}
 use Rattle.written.proofs.Handing.{clear_long, clear_is, no_room, room_enough_lem, hands_as}
 use Rattle.moves.specs.Moves.{plain_of}
-use Rattle.moves.proofs.Laid.{few_nodes_lem, plain_long}
+use Rattle.moves.proofs.Laid.{few_nodes, plain_long}
 use Rattle.moves.proofs.hand_plain.Goals as goal
 use Rattle.moves.proofs.hand_plain.Goals.{After-count_in}
 
@@ -16,7 +16,7 @@ bytes c = plain_of c.args.book.now
 
 -- the size is small, and is that of the bytes
 small : (c : After-count_in) → c.count_in.result ≤ 512
-small c = omega (arith, c.count_in.ensures, few_nodes_lem _ c.requires)
+small c = omega (arith, c.count_in.ensures, few_nodes _ c.requires)
 
 size_is : (c : After-count_in) → c.contents_size.result + 4 + 6 * c.count_in.result ≡ length (bytes c)
 size_is c =

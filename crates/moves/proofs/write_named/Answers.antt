@@ -6,7 +6,7 @@ use lib.ListN.{length}
 use lib.Seq.{length-sets}
 use Rattle.words.proofs.Bytes.{below_each}
 use Rattle.book.specs.Form.{book_of}
-use Rattle.moves.proofs.Laid.{few_nodes_lem, body_within, end_small, end_within, named_long, named_laid}
+use Rattle.moves.proofs.Laid.{few_nodes, body_within, end_small, end_within, named_long, named_laid}
 use Rattle.moves.proofs.write_named.Goals as goal
 use Rattle.moves.proofs.write_named.Goals.{After-count_in-nodes}
 
@@ -21,12 +21,12 @@ room c =
 small : (c : After-count_in-nodes) → ((book_of c.args.book.now).count ≤ 512) × (c.args.end ≤ 1088)
 small c =
     let before = c.requires in (
-      few_nodes_lem c.args.book.now before.form,
+      few_nodes c.args.book.now before.form,
       omega (arith, before.end_is, end_small c.args.book.now before.form c.args.house.now before.house_good),
     )
 
 pub overflow_mul-nodes : goal.overflow_mul-nodes
-overflow_mul-nodes c = omega (arith, c.count_in-nodes.ensures, few_nodes_lem _ c.requires.form)
+overflow_mul-nodes c = omega (arith, c.count_in-nodes.ensures, few_nodes _ c.requires.form)
 
 pub put_contents-requires : goal.put_contents-requires
 put_contents-requires c =

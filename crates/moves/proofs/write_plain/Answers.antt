@@ -6,7 +6,7 @@ use lib.ListN.{length}
 use lib.Seq.{length-sets}
 use Rattle.words.proofs.Bytes.{below_each}
 use Rattle.book.specs.Form.{book_of}
-use Rattle.moves.proofs.Laid.{few_nodes_lem, body_within, plain_long, plain_laid}
+use Rattle.moves.proofs.Laid.{few_nodes, body_within, plain_long, plain_laid}
 use Rattle.moves.proofs.write_plain.Goals as goal
 use Rattle.moves.proofs.write_plain.Goals.{After-count_in-nodes}
 
@@ -16,7 +16,7 @@ room : (c : After-count_in-nodes)
     × ((book_of c.args.book.now).count ≤ 512)
 room c =
     let before = c.requires in
-    (omega (arith, before.fits, plain_long c.args.book.now before.form), few_nodes_lem c.args.book.now before.form)
+    (omega (arith, before.fits, plain_long c.args.book.now before.form), few_nodes c.args.book.now before.form)
 
 pub overflow_mul-nodes : goal.overflow_mul-nodes
 overflow_mul-nodes c = omega (arith, c.count_in-nodes.ensures, room (goal.at.overflow_mul-nodes c).After-count_in-nodes)

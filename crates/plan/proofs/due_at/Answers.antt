@@ -3,7 +3,7 @@ use Prim.Native.Nat.{◌<◌, ◌+◌}
 use native.Mathlib.Omega.{arith}
 use lib.ListN.{length}
 use Rattle.plan.specs.Form.{plan_from, due_at}
-use Rattle.plan.proofs.Runnable.{few_nodes_lem, few_kinds, due_inside}
+use Rattle.plan.proofs.Runnable.{few_nodes, few_kinds, due_inside}
 use Rattle.plan.proofs.due_at.Goals as goal
 use Rattle.plan.proofs.due_at.Goals.{Start}
 
@@ -14,10 +14,10 @@ inside : (c : Start)
 inside c = due_inside c.requires.0 c.requires.1
 
 pub overflow_mul-count : goal.overflow_mul-count
-overflow_mul-count c = omega (arith, few_nodes_lem c.requires.0)
+overflow_mul-count c = omega (arith, few_nodes c.requires.0)
 
 pub overflow_add-count : goal.overflow_add-count
-overflow_add-count c = omega (arith, few_nodes_lem c.requires.0)
+overflow_add-count c = omega (arith, few_nodes c.requires.0)
 
 pub overflow_add-kinds : goal.overflow_add-kinds
 overflow_add-kinds c = omega (arith, few_kinds c.requires.0)

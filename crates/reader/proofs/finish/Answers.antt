@@ -3,7 +3,7 @@ use Prim.Native.Nat.{◌-◌, ◌<◌}
 use native.Mathlib.Omega.{arith}
 use borrow.Author.Tests.{eq-eqb, ne_eqb}
 use Rattle.plan.specs.Form.{plan_from, Runnable}
-use Rattle.plan.proofs.Runnable.{few_nodes_lem}
+use Rattle.plan.proofs.Runnable.{few_nodes}
 use Rattle.reader.proofs.PartsTakenOff.{last_at, last_below, last_inside, finish_none, finish_refuses, finish_passes}
 use Rattle.reader.proofs.finish.Goals as goal
 use Rattle.reader.proofs.finish.Goals.{In-loop-parts}
@@ -17,7 +17,7 @@ runs t = t.requires.runs
 
 -- the part taken off is a small number
 last-small : (t : Turn) → last_at t.args.held.now t.loop-parts.parts < 512
-last-small t = omega (arith, last_below t.loop-parts.invariant t.loop-parts-test.true, few_nodes_lem (runs t))
+last-small t = omega (arith, last_below t.loop-parts.invariant t.loop-parts-test.true, few_nodes (runs t))
 
 pub loop-parts-init : goal.loop-parts-init
 loop-parts-init c = record { rest = refl; safe = c.requires.parts; tree_long = refl; small = omega arith }

@@ -3,7 +3,7 @@ use Prim.Native.Nat.{ℕ, ◌<◌}
 use native.Mathlib.Omega.{arith}
 use lib.ListN.{length, get_or, set, length-set}
 use Rattle.plan.specs.Form.{plan_from, plan_start}
-use Rattle.plan.proofs.Runnable.{few_nodes_lem, settings_inside, start_node}
+use Rattle.plan.proofs.Runnable.{few_nodes, settings_inside, start_node}
 use Rattle.reader.specs.Machine.{After, after, slot_of, event_of, pass_of}
 use Rattle.reader.specs.Ready.{Ready}
 use Rattle.reader.proofs.Simulation.{bounded}
@@ -73,7 +73,7 @@ loop-at-init c =
     record {
       within = omega arith;
       rest = refl;
-      safe = rw (length-set held 0 c.slot_of.result, c.slot_of.ensures) (started held (few_nodes_lem runs) below c.requires.2);
+      safe = rw (length-set held 0 c.slot_of.result, c.slot_of.ensures) (started held (few_nodes runs) below c.requires.2);
       tree_long = refl;
       small = omega arith;
     }
@@ -108,7 +108,7 @@ pub loop-at-preserved : goal.loop-at-preserved
 unfolding plan_from
 loop-at-preserved c =
     let runs = c.requires.0 in
-    run_goes _ _ _ _ _ c.loop-at.invariant c.loop-at-test.true (out (goal.at.loop-at-preserved c).After-take_event-spot) (steps (goal.at.loop-at-preserved c).After-take_event-spot) (bounded runs) (few_nodes_lem runs) c.if-spot-ne-DONE.false
+    run_goes _ _ _ _ _ c.loop-at.invariant c.loop-at-test.true (out (goal.at.loop-at-preserved c).After-take_event-spot) (steps (goal.at.loop-at-preserved c).After-take_event-spot) (bounded runs) (few_nodes runs) c.if-spot-ne-DONE.false
     c.take_event-spot.auto.tree
 
 -- the run is at its end

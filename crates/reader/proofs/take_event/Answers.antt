@@ -3,7 +3,7 @@ use Prim.Native.Nat.{◌-◌, ◌<◌}
 use native.Mathlib.Omega.{arith}
 use borrow.Author.Tests.{lt-ltb, le-ltb, eq-eqb, ne_eqb}
 use Rattle.plan.specs.Form.{plan_from, Runnable}
-use Rattle.plan.proofs.Runnable.{few_nodes_lem}
+use Rattle.plan.proofs.Runnable.{few_nodes}
 use Rattle.reader.specs.Machine.{event_of}
 use Rattle.reader.proofs.PartsTakenOff.{last_at, last_below, label_small, last_inside, fewer}
 use Rattle.reader.proofs.PartsTakenOff.{take_none, take_walks, take_refuses, take_passes}
@@ -23,7 +23,7 @@ known t = omega arith
 
 -- the part taken off is a small number
 last-small : (t : Turn) → last_at t.loop-parts.held t.loop-parts.parts < 512
-last-small t = omega (arith, last_below t.loop-parts.invariant t.loop-parts-test.true, few_nodes_lem (runs t))
+last-small t = omega (arith, last_below t.loop-parts.invariant t.loop-parts-test.true, few_nodes (runs t))
 
 -- the kind is not known
 pub returns-then-kinds-kind : goal.returns-then-kinds-kind

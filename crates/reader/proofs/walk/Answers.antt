@@ -6,7 +6,7 @@ use lib.ListN.{length}
 use Rattle.running.specs.Running.{Plan}
 use Rattle.book.specs.Form.{DONE}
 use Rattle.plan.specs.Form.{plan_count, plan_from, plan_of, plan_judged, Runnable, RowHas}
-use Rattle.plan.proofs.Runnable.{few_nodes_lem, same-plan, side_asks, left_node, right_node, untagged}
+use Rattle.plan.proofs.Runnable.{few_nodes, same-plan, side_asks, left_node, right_node, untagged}
 use Rattle.running.specs.Stages.{inside}
 use Rattle.reader.specs.Machine.{slot_of, walk_of}
 use Rattle.reader.proofs.Simulation.{bounded}
@@ -84,10 +84,10 @@ plain v high =
     rw none refl
 
 left_small : (v : Visited) → (plan_of v.args.plan.now).left (v.loop-visits.node) < 512
-left_small v = omega (arith, left-of v, left_node v.requires.0.runs (v.loop-visits.node), few_nodes_lem v.requires.0.runs)
+left_small v = omega (arith, left-of v, left_node v.requires.0.runs (v.loop-visits.node), few_nodes v.requires.0.runs)
 
 right-small : (v : Visited) → (plan_of v.args.plan.now).right (v.loop-visits.node) < 512
-right-small v = omega (arith, right_of v, right_node v.requires.0.runs (v.loop-visits.node), few_nodes_lem v.requires.0.runs)
+right-small v = omega (arith, right_of v, right_node v.requires.0.runs (v.loop-visits.node), few_nodes v.requires.0.runs)
 
 -- the tree is as long as at the start
 tree_long : (v : Visited) → length v.note.new.tree ≡ length v.args.tree.now
@@ -108,11 +108,11 @@ loop-visits-init c =
     }
 
 pub note-requires : goal.note-requires
-note-requires c = omega (arith, node_below (goal.at.note-requires c).In-loop-visits, few_nodes_lem (runs (goal.at.note-requires c).In-loop-visits))
+note-requires c = omega (arith, node_below (goal.at.note-requires c).In-loop-visits, few_nodes (runs (goal.at.note-requires c).In-loop-visits))
 
 pub overflow_add-records : goal.overflow_add-records
 overflow_add-records c =
-    omega (arith, c.loop-visits.invariant.small, c.requires.0.few_records, few_nodes_lem (runs (goal.at.overflow_add-records c).In-loop-visits))
+    omega (arith, c.loop-visits.invariant.small, c.requires.0.few_records, few_nodes (runs (goal.at.overflow_add-records c).In-loop-visits))
 
 pub cell_at-requires : goal.cell_at-requires
 cell_at-requires c = (runs (goal.at.cell_at-requires c).In-loop-visits, node_below (goal.at.cell_at-requires c).In-loop-visits, omega (arith, c.requires.1))
@@ -191,7 +191,7 @@ note-requires-in-4 c = omega (arith, c.left_at.ensures, left_small (goal.at.note
 
 pub overflow_add-records-in-4 : goal.overflow_add-records-in-4
 overflow_add-records-in-4 c =
-    omega (arith, (visit (goal.at.overflow_add-records-in-4 c).After-cell_at).small, c.requires.0.few_records, few_nodes_lem (runs (goal.at.overflow_add-records-in-4 c).In-loop-visits))
+    omega (arith, (visit (goal.at.overflow_add-records-in-4 c).After-cell_at).small, c.requires.0.few_records, few_nodes (runs (goal.at.overflow_add-records-in-4 c).In-loop-visits))
 
 pub right_at-node-requires : goal.right_at-node-requires
 right_at-node-requires c =

@@ -7,12 +7,12 @@ use Rattle.rules.proofs.Spreading.{start_sound, start_marked, turned_reached, al
 use Rattle.rules.proofs.reach.Goals as goal
 
 pub mark-requires : goal.mark-requires
-mark-requires c = omega (arith, c.requires.good_nodes.few_nodes_lem, c.requires.blank.long)
+mark-requires c = omega (arith, c.requires.good_nodes.few_nodes, c.requires.blank.long)
 
 pub loop-marks-init : goal.loop-marks-init
 loop-marks-init c =
     let pre = c.requires in
-    settling_none (start_sound pre.blank (omega (arith, pre.good_nodes.few_nodes_lem)) c.mark.ensures)
+    settling_none (start_sound pre.blank (omega (arith, pre.good_nodes.few_nodes)) c.mark.ensures)
 
 pub spread_all-requires : goal.spread_all-requires
 spread_all-requires c =
@@ -28,7 +28,7 @@ all_marked-requires c =
     let settling = c.loop-marks.invariant in
     let long = (settling_more settling (c.spread_all.ensures.from _ settling.sound).grown).long in
     record {
-      count_bound = pre.good_nodes.few_nodes_lem;
+      count_bound = pre.good_nodes.few_nodes;
       marks_size_in_bounds = omega (arith, pre.blank.long, c.mark.auto.marks, long);
     }
 
@@ -65,7 +65,7 @@ pub returns : goal.returns
 returns c =
     let pre = c.requires in
     let settling = c.loop-marks.invariant in
-    let started = start_marked pre.blank (omega (arith, pre.good_nodes.few_nodes_lem)) c.mark.ensures in (
+    let started = start_marked pre.blank (omega (arith, pre.good_nodes.few_nodes)) c.mark.ensures in (
       turned_reached pre.good_nodes.proper pre.start_lt_count settling.sound (record { mark = settling.keeps _ _ started.mark })
           (c.spread_all.ensures.from _ settling.sound)
           c.loop-marks-test.false,
