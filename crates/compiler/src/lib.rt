@@ -95,7 +95,7 @@ fn compile_by(book: &[u8], table: &mut [u64], least: &mut [u32], plan: &mut [u8]
     put_plan(book, table, least, plan)
 }
 
-// Compiles a book with the largest tables, which stand in a frame of their own.
+// Compiles a book with the largest tables, in a function of its own so that small tables can lie where these do.
 fn compile_large(book: &[u8], plan: &mut [u8]) -> Compiled
     ensures { Compiles book.now (length plan.old) result plan.new }
 {
