@@ -7,6 +7,7 @@ use native.Mathlib.Omega.{arith}
 use borrow.Author.Tests.{ltb-true, leb-true, lt-ltb, le-ltb}
 use lib.Dec.{ltb}
 use lib.ListN.{length}
+use Rattle.std.specs.Prelude.{Option, Some, None}
 use Rattle.words.proofs.Tests.{both, holds, never}
 use Rattle.forms.specs.Forms.{contents_are}
 use Rattle.names.specs.Names.{NAMES, names_good, first_bad_name}
@@ -23,21 +24,21 @@ use Rattle.book.proofs.Laws.{Sized, sized, settings_say, settings_between}
 use Rattle.book.proofs.Laws.{form_length, form_contents, form_settings, form_node, form_names}
 
 -- fields that the type table takes are those of a proper node
-pub fields_proper : (type : NodeType) (f : Fields) → fields_good type f ≡ true
+pub fields_proper : (type : Option NodeType) (f : Fields) → fields_good type f ≡ true
     → Proper f.kinds f.count f.own (typed_node type f.left f.right)
-fields_proper NodeType.Fail f good = fail_is
-fields_proper NodeType.Empty f good = empty_is
-fields_proper NodeType.Token f good = token_is (ltb-true _ _ (both (ltb f.left f.kinds) _ good).0)
-fields_proper NodeType.Either f good =
+fields_proper (Some NodeType.Fail) f good = fail_is
+fields_proper (Some NodeType.Empty) f good = empty_is
+fields_proper (Some NodeType.Token) f good = token_is (ltb-true _ _ (both (ltb f.left f.kinds) _ good).0)
+fields_proper (Some NodeType.Either) f good =
     let (l, r) = both (ltb f.left f.own) _ good in either_is (ltb-true _ _ l) (ltb-true _ _ r)
-fields_proper NodeType.Then f good =
+fields_proper (Some NodeType.Then) f good =
     let (l, r) = both (ltb f.left f.own) _ good in then_is (ltb-true _ _ l) (ltb-true _ _ r)
-fields_proper NodeType.Tagged f good =
+fields_proper (Some NodeType.Tagged) f good =
     let (first, most) = both _ _ good in
     let (l, least) = both (ltb f.left f.own) _ first in
     tagged_is (ltb-true _ _ l) (leb-true _ _ least, leb-true _ _ most)
-fields_proper NodeType.Ref f good = ref_is (ltb-true _ _ (both (ltb f.left f.count) _ good).0)
-fields_proper NodeType.None f good = never good
+fields_proper (Some NodeType.Ref) f good = ref_is (ltb-true _ _ (both (ltb f.left f.count) _ good).0)
+fields_proper None f good = never good
 
 -- the look-up below the count, and beyond it
 module _ (bytes : List ℕ) (base count n : ℕ) where
@@ -108,6 +109,18 @@ formed bytes done =
   where
     refused : {number place : ℕ} → form_of bytes ≡ judged number place → (number ≡ DONE → ⊥) → ⊥
     refused answer other = other (sym (ap (λ (j : Judged). j.number) answer) ∙ done)
+
+-- how far the parts of a book of good form reach, and what its settings are
+pub good_form : (bytes : List ℕ) → (form_of bytes).number ≡ DONE
+    → (24 ≤ length bytes) × (settings_at bytes ≤ 20) × (nodes_at bytes + 6 * count_of bytes ≤ length bytes) × (count_of bytes ≤ 512)
+    × (kinds_of bytes ≤ 64) × (start_of bytes < count_of bytes)
+good_form bytes done =
+    let f = formed bytes done in
+    let between = settings_between bytes in
+    (omega (arith, f.size, between), between.1, f.size.within, f.size.few_nodes, f.few_kinds, f.start_below)
+
+pub done_long : (bytes : List ℕ) → form_of bytes ≡ judged DONE 0 → 24 ≤ length bytes
+done_long bytes is = (good_form bytes (ap (λ (j : Judged). j.number) is)).0
 
 -- a book of good form is well-formed
 pub well_formed : {bytes : List ℕ} → Formed bytes → WellFormed (book_of bytes)

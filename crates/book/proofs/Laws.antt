@@ -14,7 +14,7 @@ use Rattle.words.proofs.Tests.{both, fails}
 use Rattle.forms.specs.Forms.{contents_are}
 use Rattle.names.specs.Names.{NAMES, name_good, names_good, first_bad_name}
 use Rattle.book.specs.Form.{judged, DONE, LENGTH, CONTENTS, SETTINGS, NODE, named, settings_at, count_of, names_at, kinds_of}
-use Rattle.book.specs.Form.{book_sections, named_sections, sections_of, few_nodes, length_good, contents_good, settings_good}
+use Rattle.book.specs.Form.{sections_of, few_nodes, length_good, contents_good, settings_good}
 use Rattle.book.specs.Form.{bad_node, names_form, form_of}
 
 -- where settings stand, and how many nodes there are, without names and with them
@@ -103,27 +103,6 @@ settings_say bytes at count good =
     let (ends, below) = both (leb 1 (u16_at bytes at) && leb (u16_at bytes at) 64) _ good in
     let (least, most) = both (leb 1 (u16_at bytes at)) _ ends in
     (leb-true _ _ least, leb-true _ _ most, ltb-true _ _ below)
-
--- the answer of the test of contents, one test after the other
-module _ (bytes : List ℕ) where
-  pub contents_few : few_nodes bytes ≡ false → contents_good bytes ≡ false
-  contents_few bad = rw bad
-
-  pub contents_cut : length bytes < names_at bytes → contents_good bytes ≡ false
-  contents_cut cut = fails (contents_good bytes) (λ good. omega (arith, cut, (sized bytes good).0.within))
-
-  module _ (few : few_nodes bytes ≡ true) (within : names_at bytes ≤ length bytes) where
-    contents_by : (t : Bool) → named bytes ≡ t
-        → contents_good bytes
-        ≡ contents_are bytes (cond t (named_sections (count_of bytes) (length bytes - names_at bytes)) (book_sections (count_of bytes)))
-    contents_by t is = rw (few, le-leb _ _ within, is)
-
-    pub contents_plain : named bytes ≡ false → contents_good bytes ≡ contents_are bytes (book_sections (count_of bytes))
-    contents_plain plain = contents_by false plain
-
-    pub contents_named : named bytes ≡ true
-        → contents_good bytes ≡ contents_are bytes (named_sections (count_of bytes) (length bytes - names_at bytes))
-    contents_named names = contents_by true names
 
 -- the first bad name is one of so many, or their count
 pub bad_within : (bytes : List ℕ) (at count : ℕ) → first_bad_name bytes at count ≤ count

@@ -8,6 +8,7 @@ use borrow.Author.Tests.{eq-eqb, eqb-true}
 use lib.Dec.{ltb, eqb}
 use lib.ListN.{length, get_or, take, drop, length-append, length-drop, drop_of_length-le}
 use lib.Seq.{take_at, drop_at, drop-length}
+use Rattle.std.specs.Prelude.{Option, Some, None}
 use Rattle.words.specs.Words.{u16_at, word_bytes, Below}
 use Rattle.words.specs.Lists.{lists_from, part_at}
 use Rattle.words.proofs.Bytes.{length_words}
@@ -41,23 +42,23 @@ zeros-kept number f good =
     ∙ zero_kept number (eqb f.left 0) f good
 
 -- fields that the type table takes are the numbers of the node that they are
-typed_kept : (type : NodeType) (f : Fields) → fields_good type f ≡ true
+typed_kept : (type : Option NodeType) (f : Fields) → fields_good type f ≡ true
     → node_words (typed_node type f.left f.right) ≡ number_of type ∷ f.left ∷ f.right ∷ []
-typed_kept NodeType.Fail f good = zeros-kept 0 f good
-typed_kept NodeType.Empty f good = zeros-kept 1 f good
-typed_kept NodeType.Token f good = zero_kept 2 (ltb f.left f.kinds) f good
-typed_kept NodeType.Either f good = refl
-typed_kept NodeType.Then f good = refl
-typed_kept NodeType.Tagged f good = refl
-typed_kept NodeType.Ref f good = zero_kept 6 (ltb f.left f.count) f good
-typed_kept NodeType.None f good = never good
+typed_kept (Some NodeType.Fail) f good = zeros-kept 0 f good
+typed_kept (Some NodeType.Empty) f good = zeros-kept 1 f good
+typed_kept (Some NodeType.Token) f good = zero_kept 2 (ltb f.left f.kinds) f good
+typed_kept (Some NodeType.Either) f good = refl
+typed_kept (Some NodeType.Then) f good = refl
+typed_kept (Some NodeType.Tagged) f good = refl
+typed_kept (Some NodeType.Ref) f good = zero_kept 6 (ltb f.left f.count) f good
+typed_kept None f good = never good
 
 fields_kept : (number : ℕ) (f : Fields) → fields_good (type_of number) f ≡ true
     → node_words (node_of number f.left f.right) ≡ number ∷ f.left ∷ f.right ∷ []
 fields_kept number f good =
     typed_kept (type_of number) f good
     ∙ ap (λ (n : ℕ). n ∷ f.left ∷ f.right ∷ [])
-    (number_is number (λ none. never (sym (ap (λ (t : NodeType). fields_good t f) none) ∙ good)))
+    (number_is number (λ none. never (sym (ap (λ (t : Option NodeType). fields_good t f) none) ∙ good)))
 
 module _ (bytes : List ℕ) (f : Formed bytes) where
   abbrev book : Book

@@ -1,5 +1,5 @@
 -- The bytes of nodes: three 16-bit numbers each, type, left and right.
-use Rattle.std.specs.Prelude.{ℕ, ◌+◌, ◌*◌, ◌≤◌, ◌<◌, Bool, false, ◌&&◌, cond, List, [], ◌∷◌, ltb, leb, eqb, length, get_or}
+use Rattle.std.specs.Prelude.{ℕ, ◌+◌, ◌*◌, ◌≤◌, ◌<◌, Bool, false, ◌&&◌, cond, List, [], ◌∷◌, ltb, leb, eqb, length, Option, Some, None, slice_get}
 use Rattle.words.specs.Words.{u16_at}
 use Rattle.book.specs.Book.{Proper}
 use Rattle.book.specs.declared.Fields.{Fields}
@@ -13,20 +13,20 @@ types =
     NodeType.Fail ∷ NodeType.Empty ∷ NodeType.Token ∷ NodeType.Either ∷ NodeType.Then ∷ NodeType.Tagged ∷ NodeType.Ref
     ∷ []
 
--- the type with a number in the type table, or none
-abbrev pub type_of : ℕ → NodeType
-type_of number = get_or types number NodeType.None
+-- the type with a number in the type table, if it is one's
+abbrev pub type_of : ℕ → Option NodeType
+type_of number = slice_get types number
 
 -- the node of a type with a left and a right
-abbrev pub typed_node : NodeType → ℕ → ℕ → Node
-typed_node NodeType.Fail left right = Fail
-typed_node NodeType.Empty left right = Empty
-typed_node NodeType.Token left right = Token left
-typed_node NodeType.Either left right = Either left right
-typed_node NodeType.Then left right = Then left right
-typed_node NodeType.Tagged left right = Tagged left right
-typed_node NodeType.Ref left right = Ref left
-typed_node NodeType.None left right = Fail
+abbrev pub typed_node : Option NodeType → ℕ → ℕ → Node
+typed_node (Some NodeType.Fail) left right = Fail
+typed_node (Some NodeType.Empty) left right = Empty
+typed_node (Some NodeType.Token) left right = Token left
+typed_node (Some NodeType.Either) left right = Either left right
+typed_node (Some NodeType.Then) left right = Then left right
+typed_node (Some NodeType.Tagged) left right = Tagged left right
+typed_node (Some NodeType.Ref) left right = Ref left
+typed_node None left right = Fail
 
 -- the node that a type's number, a left and a right are
 abbrev pub node_of : ℕ → ℕ → ℕ → Node
@@ -55,15 +55,15 @@ abbrev pub ref_rule : Fields → Bool
 ref_rule f = ltb f.left f.count && eqb f.right 0
 
 -- whether fields are those of a node of a type
-abbrev pub fields_good : NodeType → Fields → Bool
-fields_good NodeType.Fail f = fail_rule f
-fields_good NodeType.Empty f = empty_rule f
-fields_good NodeType.Token f = token_rule f
-fields_good NodeType.Either f = either_rule f
-fields_good NodeType.Then f = then_rule f
-fields_good NodeType.Tagged f = tagged_rule f
-fields_good NodeType.Ref f = ref_rule f
-fields_good NodeType.None f = false
+abbrev pub fields_good : Option NodeType → Fields → Bool
+fields_good (Some NodeType.Fail) f = fail_rule f
+fields_good (Some NodeType.Empty) f = empty_rule f
+fields_good (Some NodeType.Token) f = token_rule f
+fields_good (Some NodeType.Either) f = either_rule f
+fields_good (Some NodeType.Then) f = then_rule f
+fields_good (Some NodeType.Tagged) f = tagged_rule f
+fields_good (Some NodeType.Ref) f = ref_rule f
+fields_good None f = false
 
 module _ (bytes : List ℕ) (base : ℕ) where
   -- the type, the left and the right of the node with a number, in nodes that begin at `base`

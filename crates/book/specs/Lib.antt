@@ -1,4 +1,5 @@
 pub mod Book
 pub mod Decode
 pub mod Encode
+pub mod Errors
 pub mod Form

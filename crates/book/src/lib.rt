@@ -1,19 +1,22 @@
 // Books: nodes, and the form of a book, of two sections or, with names, of three: numbers 1 to 4 and 19.
-// The nodes' and settings' tests take an offset, since a plan holds both too.
+// The nodes' and settings' tests take bytes, an offset and counts, since a plan holds both too, and has no `Book`.
 #![tactic(auto)]
 
-ghost use Rattle.std.specs.Prelude.{◌≡◌, true, ◌+◌, ◌*◌, ◌-◌, ◌≤◌, ◌<◌, length};
+ghost use Rattle.std.specs.Prelude.{◌≡◌, true, ◌&&◌, leb, MatchResult, MatchOption, ◌+◌, ◌*◌, ◌-◌, ◌≤◌, ◌<◌, length};
 ghost use Rattle.words.specs.Lists.{first_bad};
 ghost use Rattle.book.specs.Decode.{type_of, typed_node, fields_good, node_at, node_good};
-ghost use Rattle.book.specs.Decode.{fail_rule, empty_rule, token_rule, either_rule, then_rule, tagged_rule, ref_rule};
 ghost use Rattle.book.specs.Form.{named, settings_at, nodes_at, count_of, count_claimed, names_at, length_good};
-ghost use Rattle.book.specs.Form.{contents_good, settings_good, names_form, form_of, book_of, DONE};
+ghost use Rattle.book.specs.Form.{contents_good, settings_good, names_form, form_of, book_of, judged, DONE};
+ghost use Rattle.book.specs.Errors.{judged_by};
+
+mod good;
 
 use forms::contents_are;
+pub use good::Book;
 use names::{NAMES, find_bad};
 use words::u16_at;
 
-// A node of a book, by document 01's type table. Bytes that are no node never come past the form test.
+// A node of a book, by the type table. Bytes that are no node never come past the form test.
 #[derive(Clone, Copy)]
 pub enum Node {
     Fail,
@@ -25,7 +28,7 @@ pub enum Node {
     Ref(usize),
 }
 
-// A node's type, by its number in document 01's type table; `None` for a number that is no type.
+// A node's type, in the order of the type table.
 #[derive(Clone, Copy)]
 pub enum NodeType {
     Fail,
@@ -35,7 +38,6 @@ pub enum NodeType {
     Then,
     Tagged,
     Ref,
-    None,
 }
 
 // The left and the right of a node, and what they are held against: how many kinds and nodes there are, its own number.
@@ -48,147 +50,97 @@ pub struct Fields {
     pub right: usize,
 }
 
-// The type with a number.
-fn type_of(number: usize) -> NodeType
+// The type with a number in the type table, if it is one's.
+fn type_of(number: usize) -> Option<NodeType>
     ensures { result ≡ type_of number }
 {
     match number {
-        0 => NodeType::Fail,
-        1 => NodeType::Empty,
-        2 => NodeType::Token,
-        3 => NodeType::Either,
-        4 => NodeType::Then,
-        5 => NodeType::Tagged,
-        6 => NodeType::Ref,
-        _ => NodeType::None,
+        0 => Some(NodeType::Fail),
+        1 => Some(NodeType::Empty),
+        2 => Some(NodeType::Token),
+        3 => Some(NodeType::Either),
+        4 => Some(NodeType::Then),
+        5 => Some(NodeType::Tagged),
+        6 => Some(NodeType::Ref),
+        _ => None,
     }
 }
 
-// The node of a type with a left and a right.
-fn typed_node(of: NodeType, left: usize, right: usize) -> Node
-    ensures { result ≡ typed_node of left right }
-{
-    match of {
-        NodeType::Fail => Node::Fail,
-        NodeType::Empty => Node::Empty,
-        NodeType::Token => Node::Token(left),
-        NodeType::Either => Node::Either(left, right),
-        NodeType::Then => Node::Then(left, right),
-        NodeType::Tagged => Node::Tagged(left, right),
-        NodeType::Ref => Node::Ref(left),
-        NodeType::None => Node::Fail,
+impl NodeType {
+    // The node of the type with a left and a right.
+    fn node(self, left: usize, right: usize) -> Node
+        ensures { result ≡ typed_node (Some self) left right }
+    {
+        match self {
+            NodeType::Fail => Node::Fail,
+            NodeType::Empty => Node::Empty,
+            NodeType::Token => Node::Token(left),
+            NodeType::Either => Node::Either(left, right),
+            NodeType::Then => Node::Then(left, right),
+            NodeType::Tagged => Node::Tagged(left, right),
+            NodeType::Ref => Node::Ref(left),
+        }
     }
-}
 
-// Fail: left 0, right 0.
-fn fail_rule(f: Fields) -> bool
-    ensures { result ≡ fail_rule f }
-{
-    (f.left == 0) & (f.right == 0)
-}
-
-// Empty: left 0, right 0.
-fn empty_rule(f: Fields) -> bool
-    ensures { result ≡ empty_rule f }
-{
-    (f.left == 0) & (f.right == 0)
-}
-
-// Token: left a kind, below K; right 0.
-fn token_rule(f: Fields) -> bool
-    ensures { result ≡ token_rule f }
-{
-    (f.left < f.kinds) & (f.right == 0)
-}
-
-// Either: left and right lower nodes.
-fn either_rule(f: Fields) -> bool
-    ensures { result ≡ either_rule f }
-{
-    (f.left < f.own) & (f.right < f.own)
-}
-
-// Then: left and right lower nodes.
-fn then_rule(f: Fields) -> bool
-    ensures { result ≡ then_rule f }
-{
-    (f.left < f.own) & (f.right < f.own)
-}
-
-// Tagged: left a lower node, right a label, 1 to 65,535.
-fn tagged_rule(f: Fields) -> bool
-    ensures { result ≡ tagged_rule f }
-{
-    (f.left < f.own) & (1 <= f.right) & (f.right <= 65535)
-}
-
-// Ref: left any node, right 0.
-fn ref_rule(f: Fields) -> bool
-    ensures { result ≡ ref_rule f }
-{
-    (f.left < f.count) & (f.right == 0)
-}
-
-// Whether fields are those of a node of a type, by the type table.
-fn fields_good(of: NodeType, f: Fields) -> bool
-    ensures { result ≡ fields_good of f }
-{
-    match of {
-        NodeType::Fail => fail_rule(f),
-        NodeType::Empty => empty_rule(f),
-        NodeType::Token => token_rule(f),
-        NodeType::Either => either_rule(f),
-        NodeType::Then => then_rule(f),
-        NodeType::Tagged => tagged_rule(f),
-        NodeType::Ref => ref_rule(f),
-        NodeType::None => false,
+    // Whether fields are those of a node of the type, by the type table: a left and a right that are not used are 0, a
+    // kind is below K, a side is a lower node, a label is 1 to 65,535, and a ref's left is any node.
+    fn allows(self, f: Fields) -> bool
+        ensures { result ≡ fields_good (Some self) f }
+    {
+        match self {
+            NodeType::Fail | NodeType::Empty => f.left == 0 && f.right == 0,
+            NodeType::Token => f.left < f.kinds && f.right == 0,
+            NodeType::Either | NodeType::Then => f.left < f.own && f.right < f.own,
+            NodeType::Tagged => f.left < f.own && 1 <= f.right && f.right <= 65535,
+            NodeType::Ref => f.left < f.count && f.right == 0,
+        }
     }
 }
 
 // The node with a number, in nodes that begin at `base`.
+#[tactic(auto, unfolding(crate::specs::Decode::node_at))]
 pub fn node_at(bytes: &[u8], base: usize, n: usize) -> Node
     requires { base + 6 * n + 6 ≤ length bytes.now }
     ensures { result ≡ node_at bytes.now base n }
 {
     let at = base + 6 * n;
-    typed_node(
-        type_of(u16_at(bytes, at)),
-        u16_at(bytes, at + 2),
-        u16_at(bytes, at + 4),
-    )
+    match type_of(u16_at(bytes, at)) {
+        Some(of) => of.node(u16_at(bytes, at + 2), u16_at(bytes, at + 4)),
+        None => Node::Fail,
+    }
 }
 
 // Whether the node with a number is as the type table has it.
+#[tactic(auto, unfolding(crate::specs::Decode::node_good))]
 pub fn node_good(bytes: &[u8], base: usize, kinds: usize, count: usize, n: usize) -> bool
     requires { base + 6 * n + 6 ≤ length bytes.now }
     ensures { result ≡ node_good bytes.now base kinds count n }
 {
     let at = base + 6 * n;
-    fields_good(
-        type_of(u16_at(bytes, at)),
-        Fields {
-            kinds: kinds,
-            count: count,
+    match type_of(u16_at(bytes, at)) {
+        Some(of) => of.allows(Fields {
+            kinds,
+            count,
             own: n,
             left: u16_at(bytes, at + 2),
             right: u16_at(bytes, at + 4),
-        },
-    )
+        }),
+        None => false,
+    }
 }
 
-// The first node that is against the type table, or the count where none is.
-pub fn first_bad(bytes: &[u8], base: usize, kinds: usize, count: usize) -> usize
+// The first node that is against the type table, if any is.
+pub fn first_bad(bytes: &[u8], base: usize, kinds: usize, count: usize) -> Option<usize>
     requires { base + 6 * count ≤ length bytes.now }
-    ensures { result ≡ first_bad (node_good bytes.now base kinds count) count 0 }
+    ensures { MatchOption result (first_bad (node_good bytes.now base kinds count) count 0 ≡ count)
+        (λ n. (n < count) × (n ≡ first_bad (node_good bytes.now base kinds count) count 0)) }
 {
-    let mut n = 0;
-    while n < count {
+    for n in 0..count {
         if !node_good(bytes, base, kinds, count, n) {
-            return n;
+            return Some(n);
         }
-        n += 1;
     }
-    n
+    None
 }
 
 // Whether settings at an offset have 1 to 64 kinds and a start among the nodes.
@@ -197,7 +149,7 @@ pub fn settings_good(bytes: &[u8], at: usize, count: usize) -> bool
     ensures { result ≡ settings_good bytes.now at count }
 {
     let kinds = u16_at(bytes, at);
-    (1 <= kinds) & (kinds <= 64) & (u16_at(bytes, at + 2) < count)
+    1 <= kinds && kinds <= 64 && u16_at(bytes, at + 2) < count
 }
 
 // Where the settings of a book begin, without names and with them, and where the size of its nodes stands.
@@ -208,6 +160,7 @@ const NAMED_SETTINGS_AT: usize = 20;
 const NODES_SIZE_AT: usize = 12;
 
 // Whether bytes begin as a book with names: with a count of three sections.
+#[tactic(auto, unfolding(crate::specs::Form::named))]
 pub fn has_names(bytes: &[u8]) -> bool
     requires { 2 ≤ length bytes.now }
     ensures { result ≡ named bytes.now }
@@ -216,25 +169,29 @@ pub fn has_names(bytes: &[u8]) -> bool
 }
 
 // Where the settings begin.
+#[tactic(auto, unfolding(crate::specs::Form::settings_at))]
 fn settings_at(bytes: &[u8]) -> usize
     requires { 2 ≤ length bytes.now }
     ensures { (result ≡ settings_at bytes.now) × (result ≤ 20) }
 {
     if has_names(bytes) {
-        return NAMED_SETTINGS_AT;
+        NAMED_SETTINGS_AT
+    } else {
+        SETTINGS_AT
     }
-    SETTINGS_AT
 }
 
 // How many nodes there are: with names by the size of section 2, else by the length.
+#[tactic(auto, unfolding(crate::specs::Form::count_of, crate::specs::Form::settings_at))]
 fn count_of(bytes: &[u8]) -> usize
     requires { 24 ≤ length bytes.now }
     ensures { result ≡ count_of bytes.now }
 {
     if has_names(bytes) {
-        return u16_at(bytes, NODES_SIZE_AT) / 6;
+        u16_at(bytes, NODES_SIZE_AT) / 6
+    } else {
+        (bytes.len() - (SETTINGS_AT + 4)) / 6
     }
-    (bytes.len() - SETTINGS_AT - 4) / 6
 }
 
 // How many nodes bytes claim to have: none where they are shorter than any book.
@@ -247,7 +204,15 @@ pub fn count_claimed(bytes: &[u8]) -> usize
     count_of(bytes)
 }
 
+// Whether a count of nodes is an N: 1 to 512.
+fn few_nodes(count: usize) -> bool
+    ensures { result ≡ (leb 1 count && leb count 512) }
+{
+    matches!(count, 1..=512)
+}
+
 // Whether the length is that of a book: 18 + 6N for an N from 1 to 512; with names 32 to 4,184.
+#[tactic(auto, using(crate::proofs::Laws::too_short, crate::proofs::Laws::settings_plain, crate::proofs::Laws::count_plain))]
 fn length_good(bytes: &[u8]) -> bool
     ensures { result ≡ length_good bytes.now }
 {
@@ -256,20 +221,21 @@ fn length_good(bytes: &[u8]) -> bool
         return false;
     }
     if has_names(bytes) {
-        return (32 <= size) & (size <= 4184);
+        return matches!(size, 32..=4184);
     }
     let count = count_of(bytes);
-    (1 <= count) & (count <= 512) & (size == SETTINGS_AT + 4 + 6 * count)
+    few_nodes(count) && size == SETTINGS_AT + 4 + 6 * count
 }
 
 // Whether the contents are those of a book's sections, for an N from 1 to 512, whose nodes all stand in the bytes.
+#[tactic(auto, using(crate::proofs::Laws::settings_plain, crate::proofs::Laws::settings_named, crate::proofs::Laws::few_nodes_are))]
 fn contents_good(bytes: &[u8]) -> bool
     requires { 24 ≤ length bytes.now }
     ensures { result ≡ contents_good bytes.now }
 {
     let size = bytes.len();
     let count = count_of(bytes);
-    if !((1 <= count) & (count <= 512)) {
+    if !few_nodes(count) {
         return false;
     }
     let names_at = settings_at(bytes) + 4 + 6 * count;
@@ -277,11 +243,10 @@ fn contents_good(bytes: &[u8]) -> bool
         return false;
     }
     if has_names(bytes) {
-        let sizes = [4, 6 * count, size - names_at];
-        return contents_are(bytes, &sizes);
+        contents_are(bytes, &[4, 6 * count, size - names_at])
+    } else {
+        contents_are(bytes, &[4, 6 * count])
     }
-    let sizes = [4, 6 * count];
-    contents_are(bytes, &sizes)
 }
 
 // The answers' numbers.
@@ -295,7 +260,7 @@ pub const SETTINGS: u32 = 3;
 
 pub const NODE: u32 = 4;
 
-// What a form test answers: done or a refusal's number, with its place.
+// What a form test answers, as the C interface has it: done or a refusal's number, with its place.
 #[repr(C)]
 #[derive(Clone, Copy)]
 pub struct Judged {
@@ -303,113 +268,78 @@ pub struct Judged {
     pub place: u32,
 }
 
-// The names' answer: with names, a good one for each kind stands at an offset, and nothing else.
-fn names_form(bytes: &[u8], at: usize, kinds: usize) -> Judged
-    requires { (2 ≤ length bytes.now) × (at ≤ length bytes.now) × (kinds ≤ 64) }
-    ensures { result ≡ names_form bytes.now at kinds }
-{
-    if has_names(bytes) {
-        let found = find_bad(bytes, at, kinds);
-        if !found.good {
-            return Judged {
-                number: NAMES,
-                place: found.place as u32,
-            };
-        }
-    }
-    Judged {
-        number: DONE,
-        place: 0,
+// What stands against a book, with the first node or name that is bad.
+#[derive(Clone, Copy, PartialEq, Eq)]
+pub enum BookError {
+    Length,
+    Contents,
+    Settings,
+    Node(u32),
+    Names(u32),
+}
+
+impl From<BookError> for Judged {
+    ghost from_gives = { λ error judged. judged ≡ judged_by error };
+
+    fn from(error: BookError) -> Judged {
+        let (number, place) = match error {
+            BookError::Length => (LENGTH, 0),
+            BookError::Contents => (CONTENTS, 0),
+            BookError::Settings => (SETTINGS, 0),
+            BookError::Node(n) => (NODE, n),
+            BookError::Names(n) => (NAMES, n),
+        };
+        Judged { number, place }
     }
 }
 
-// The form of a book, for any bytes: done, or the first of 1 to 4 and 19 that holds against it, with its place.
-pub fn form(bytes: &[u8]) -> Judged
-    ensures { result ≡ form_of bytes.now }
+// The names' test: with names, a good one for each kind stands at an offset, and nothing else.
+#[tactic(auto, using(crate::proofs::Laws::bad_within))]
+fn check_names(bytes: &[u8], at: usize, kinds: usize) -> Result<(), BookError>
+    requires { (2 ≤ length bytes.now) × (at ≤ length bytes.now) × (kinds ≤ 64) }
+    ensures { MatchResult result (λ _. names_form bytes.now at kinds ≡ judged DONE 0)
+        (λ error. names_form bytes.now at kinds ≡ judged_by error) }
+{
+    if has_names(bytes) {
+        if let Err(n) = find_bad(bytes, at, kinds) {
+            return Err(BookError::Names(n as u32));
+        }
+    }
+    Ok(())
+}
+
+// The test of a book's form, for any bytes: the first thing that stands against it, if any.
+#[tactic(auto, using(crate::proofs::Laws::length_least, crate::proofs::Laws::sized, crate::proofs::Laws::settings_say, crate::proofs::Laws::form_length, crate::proofs::Laws::form_contents, crate::proofs::Laws::form_settings, crate::proofs::Laws::form_node, crate::proofs::Laws::form_names))]
+pub fn check(bytes: &[u8]) -> Result<(), BookError>
+    ensures { MatchResult result (λ _. form_of bytes.now ≡ judged DONE 0) (λ error. form_of bytes.now ≡ judged_by error) }
 {
     if !length_good(bytes) {
-        return Judged {
-            number: LENGTH,
-            place: 0,
-        };
+        return Err(BookError::Length);
     }
     if !contents_good(bytes) {
-        return Judged {
-            number: CONTENTS,
-            place: 0,
-        };
+        return Err(BookError::Contents);
     }
     let count = count_of(bytes);
     let settings = settings_at(bytes);
     if !settings_good(bytes, settings, count) {
-        return Judged {
-            number: SETTINGS,
-            place: 0,
-        };
+        return Err(BookError::Settings);
     }
     let kinds = u16_at(bytes, settings);
-    let bad = first_bad(bytes, settings + 4, kinds, count);
-    if bad < count {
-        return Judged {
-            number: NODE,
-            place: bad as u32,
-        };
+    if let Some(n) = first_bad(bytes, settings + 4, kinds, count) {
+        return Err(BookError::Node(n as u32));
     }
-    names_form(bytes, settings + 4 + 6 * count, kinds)
+    check_names(bytes, settings + 4 + 6 * count, kinds)
 }
 
-// How many nodes a book of good form has.
-pub fn count_in(book: &[u8]) -> usize
-    requires { (form_of book.now).number ≡ DONE }
-    ensures { result ≡ (book_of book.now).count }
+// The form of a book, for any bytes: done, or the first of 1 to 4 and 19 that holds against it, with its place.
+pub fn form(book: &[u8]) -> Judged
+    ensures { result ≡ form_of book.now }
 {
-    count_of(book)
-}
-
-// How many kinds a book of good form has.
-pub fn kinds_in(book: &[u8]) -> usize
-    requires { (form_of book.now).number ≡ DONE }
-    ensures { result ≡ (book_of book.now).kinds }
-{
-    u16_at(book, settings_at(book))
-}
-
-// The start of a book of good form.
-pub fn start_in(book: &[u8]) -> usize
-    requires { (form_of book.now).number ≡ DONE }
-    ensures { result ≡ (book_of book.now).start }
-{
-    u16_at(book, settings_at(book) + 2)
-}
-
-// Where the settings of a book of good form begin.
-pub fn settings_from(book: &[u8]) -> usize
-    requires { (form_of book.now).number ≡ DONE }
-    ensures { result ≡ settings_at book.now }
-{
-    settings_at(book)
-}
-
-// Where the nodes of a book of good form begin.
-pub fn nodes_from(book: &[u8]) -> usize
-    requires { (form_of book.now).number ≡ DONE }
-    ensures { result ≡ nodes_at book.now }
-{
-    settings_at(book) + 4
-}
-
-// Where the nodes of a book of good form end, and its names begin.
-pub fn names_from(book: &[u8]) -> usize
-    requires { (form_of book.now).number ≡ DONE }
-    ensures { result ≡ names_at book.now }
-{
-    nodes_from(book) + 6 * count_of(book)
-}
-
-// The node with a number, of a book of good form.
-pub fn node_in(book: &[u8], n: usize) -> Node
-    requires { ((form_of book.now).number ≡ DONE) × (n < (book_of book.now).count) }
-    ensures { result ≡ (book_of book.now).node n }
-{
-    node_at(book, nodes_from(book), n)
+    match check(book) {
+        Ok(()) => Judged {
+            number: DONE,
+            place: 0,
+        },
+        Err(error) => Judged::from(error),
+    }
 }

@@ -1,1 +1,2 @@
 pub mod Compiles
+pub mod Errors

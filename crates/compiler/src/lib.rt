@@ -1,29 +1,28 @@
 // Compiling a book to a plan: numbers 0 to 7, 19 and 22.
 #![tactic(auto)]
 
-ghost use Rattle.std.specs.Prelude.{◌≡◌, ◌<◌, ◌≤◌, ◌^◌, length};
+ghost use Rattle.std.specs.Prelude.{◌≡◌, ◌≤◌, MatchResult, length};
 ghost use Rattle.words.specs.Words.{zeros};
 ghost use Rattle.book.specs.Form.{DONE, form_of, book_of};
-ghost use Rattle.rules.specs.Facts.{table_size};
+ghost use Rattle.rules.specs.Facts.{flat, table_size};
 ghost use Rattle.rules.specs.Growth.{Blank};
 ghost use Rattle.lengths.specs.Falling.{Fresh};
 ghost use Rattle.verdict.specs.Judges.{judgement, Judges};
-ghost use Rattle.verdict.specs.Conflicts.{Known};
 ghost use Rattle.compiler.specs.Compiles.{Compiles, answer};
+ghost use Rattle.compiler.specs.Errors.{refused_book, compiled_by};
 
 use book::DONE;
 use lengths::least_lengths;
 use plan::plan_size;
-use words::clear_bytes;
+use rules::{NodeFacts, SMALL_TABLE, TABLE};
+use verdict::{KnownBook, Refusal, Verdict};
 use writer::write_plan;
 
 // The answer's number, after those of judging.
 pub const PLAN_ROOM: u32 = 7;
 
-// The most nodes for which a small table of facts does.
-const SMALL_BOOK: usize = 64;
-
-// What compiling answers; of a conflict the flag that both sides are nullable, and the set of the kinds that clash.
+// What compiling answers; of a conflict the flag that both sides are nullable, and the set of the kinds that clash. Numbers
+// and a flag stay: C takes this struct.
 #[repr(C)]
 #[derive(Clone, Copy)]
 pub struct Compiled {
@@ -34,74 +33,104 @@ pub struct Compiled {
     pub clash: u64,
 }
 
-// The answer with a number, a place, a size, a flag and a set, and a clear plan buffer.
-fn answered(
-    number: u32,
-    place: u32,
-    size: usize,
-    both: u32,
-    clash: u64,
-    plan: &mut [u8],
-) -> Compiled
-    requires { size < 2 ^ 32 }
-    ensures { (result ≡ answer number place size both clash) × (plan.new ≡ zeros (length plan.old)) }
-{
-    clear_bytes(plan);
-    Compiled {
-        number,
-        place,
-        size: size as u32,
-        both,
-        clash,
+// What stands against compiling a book: a refusal of the book, or the room for its plan, with the plan's size.
+#[derive(Clone, Copy, PartialEq, Eq)]
+enum CompileError {
+    Book(Refusal),
+    PlanRoom(u32),
+}
+
+impl From<Refusal> for CompileError {
+    ghost from_gives = { λ refusal error. error ≡ refused_book refusal };
+
+    fn from(refusal: Refusal) -> CompileError {
+        CompileError::Book(refusal)
     }
 }
 
-// Compiles a book that passes, with its facts at hand and a fresh table for lengths: PLAN ROOM, or done with the plan.
-fn put_plan(book: &[u8], table: &[u64], least: &mut [u32], plan: &mut [u8]) -> Compiled
-    requires judges { Judges book.now (judgement DONE 0 0 0) }
-    requires known { Known book.now (book_of book.now).count table.now }
-    requires fresh { Fresh (book_of book.now).count least.old }
-    ensures { Compiles book.now (length plan.old) result plan.new }
+impl From<CompileError> for Compiled {
+    ghost from_gives = { λ error compiled. compiled ≡ compiled_by error };
+
+    fn from(error: CompileError) -> Compiled {
+        match error {
+            CompileError::Book(refusal) => {
+                let verdict = Verdict::from(refusal);
+                Compiled {
+                    number: verdict.number,
+                    place: verdict.place,
+                    size: 0,
+                    both: verdict.both,
+                    clash: verdict.clash,
+                }
+            },
+            CompileError::PlanRoom(size) => Compiled {
+                number: PLAN_ROOM,
+                place: 0,
+                size,
+                both: 0,
+                clash: 0,
+            },
+        }
+    }
+}
+
+// Writes the plan of a book that passes into a clear buffer, with a fresh table for its lengths. The plan's size.
+fn put_plan(known: &KnownBook, least: &mut [u32], plan: &mut [u8]) -> Result<u32, CompileError>
+    requires judges { Judges known.now.bytes (judgement DONE 0 0 0) }
+    requires fresh { Fresh (book_of known.now.bytes).count least.old }
+    requires clear { plan.old ≡ zeros (length plan.old) }
+    ensures { MatchResult result
+        (λ size. Compiles known.now.bytes (length plan.old) (answer DONE 0 size 0 0) plan.new)
+        (λ error. Compiles known.now.bytes (length plan.old) (compiled_by error) plan.new) }
 {
-    let count = book::count_in(book);
-    let kinds = book::kinds_in(book);
-    let size = plan_size(count, kinds);
+    let book = known.book();
+    let size = plan_size(book.count(), book.kinds());
     if plan.len() < size {
-        return answered(PLAN_ROOM, 0, size, 0, 0, plan);
+        return Err(CompileError::PlanRoom(size as u32));
     }
-    let done = answered(DONE, 0, size, 0, 0, plan);
-    least_lengths(book, book::nodes_from(book), count, least);
-    write_plan(book, count, kinds, table, least, plan);
-    done
+    least_lengths(book, least);
+    write_plan(book, known.table(), least, plan);
+    Ok(size as u32)
 }
 
-// Compiles a book with tables for its facts and lengths, blank and fresh and long enough where its form is good.
-fn compile_by(book: &[u8], table: &mut [u64], least: &mut [u32], plan: &mut [u8]) -> Compiled
-    requires blank { (form_of book.now).number ≡ DONE → Blank (table_size (book_of book.now).count) table.old }
+// Compiles a book into a clear buffer, with tables for its facts and lengths, blank and fresh and long enough where its form
+// is good. The plan's size.
+fn compile_by(
+    book: &[u8],
+    table: &mut [NodeFacts],
+    least: &mut [u32],
+    plan: &mut [u8],
+) -> Result<u32, CompileError>
+    requires blank { (form_of book.now).number ≡ DONE → Blank (table_size (book_of book.now).count) (flat table.old) }
     requires fresh { (form_of book.now).number ≡ DONE → Fresh (book_of book.now).count least.old }
-    ensures { Compiles book.now (length plan.old) result plan.new }
+    requires clear { plan.old ≡ zeros (length plan.old) }
+    ensures { MatchResult result
+        (λ size. Compiles book.now (length plan.old) (answer DONE 0 size 0 0) plan.new)
+        (λ error. Compiles book.now (length plan.old) (compiled_by error) plan.new) }
 {
-    let verdict = verdict::judge(book, table);
-    if verdict.number != DONE {
-        return answered(
-            verdict.number,
-            verdict.place,
-            0,
-            verdict.both,
-            verdict.clash,
-            plan,
-        );
-    }
-    put_plan(book, table, least, plan)
+    let passed = verdict::judge(book, table)?;
+    put_plan(&KnownBook::of(&passed, table), least, plan)
 }
 
-// Compiles a book with the largest tables, in a function of its own so that small tables can lie where these do.
-fn compile_large(book: &[u8], plan: &mut [u8]) -> Compiled
+// Compiles a book with tables for so many nodes, as many as it has where its form is good.
+fn compile_with<const NODES: usize>(book: &[u8], plan: &mut [u8]) -> Compiled
+    requires large { (form_of book.now).number ≡ DONE → (book_of book.now).count ≤ NODES }
+    requires few { NODES ≤ 512 }
     ensures { Compiles book.now (length plan.old) result plan.new }
 {
-    let mut table = [0u64; rules::TABLE];
-    let mut least = [lengths::CAP; lengths::TABLE];
-    compile_by(book, &mut table, &mut least, plan)
+    plan.fill(0);
+    let mut table = [NodeFacts::NONE; NODES];
+    let mut least = [lengths::CAP; NODES];
+    match compile_by(book, &mut table, &mut least, plan) {
+        Ok(size) => Compiled {
+            number: DONE,
+            place: 0,
+            size,
+            both: 0,
+            clash: 0,
+        },
+        Err(error) => Compiled::from(error),
+    }
 }
 
 // Compiles a book, for any bytes and any plan room: done with the plan, or the first of 1 to 4, 19, 22 and 5 to 7 and a
@@ -109,10 +138,9 @@ fn compile_large(book: &[u8], plan: &mut [u8]) -> Compiled
 pub fn compile(book: &[u8], plan: &mut [u8]) -> Compiled
     ensures { Compiles book.now (length plan.old) result plan.new }
 {
-    if book::count_claimed(book) <= SMALL_BOOK {
-        let mut table = [0u64; rules::SMALL_TABLE];
-        let mut least = [lengths::CAP; lengths::SMALL_TABLE];
-        return compile_by(book, &mut table, &mut least, plan);
+    if book::count_claimed(book) <= SMALL_TABLE {
+        compile_with::<SMALL_TABLE>(book, plan)
+    } else {
+        compile_with::<TABLE>(book, plan)
     }
-    compile_large(book, plan)
 }

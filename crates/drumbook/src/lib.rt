@@ -1,7 +1,8 @@
 // What a C host links: thin exports of the proved calls, each with the contract of the call it passes on.
 #![tactic(auto)]
 
-ghost use Rattle.std.specs.Prelude.{◌≡◌, length};
+ghost use Rattle.std.specs.Fn.{FnOnceReturnsAt};
+ghost use Rattle.std.specs.Prelude.{List, ℕ, ◌≡◌, length, get_or};
 ghost use Rattle.book.specs.Form.{form_of};
 ghost use Rattle.written.specs.Written.{out, Hands};
 ghost use Rattle.moves.specs.Moves.{forward_of, back_of};
@@ -12,12 +13,14 @@ ghost use Rattle.making.specs.Makes.{Makes, Places};
 ghost use Rattle.unread.specs.Unreads.{Unreads};
 ghost use Rattle.profile.specs.Profiles.{Measures, Profiles};
 ghost use Rattle.sample.specs.Samples.{Samples};
-ghost use Rattle.drums.specs.Drums.{open_of, event_of, close_of};
+ghost use Rattle.drums.specs.Drums.{idle_drum, open_of, event_of, close_of};
+ghost use Rattle.drums.specs.declared.Drum.{Drum};
+ghost use Rattle.drums.specs.declared.Stepped.{Stepped};
 ghost use Rattle.board.specs.Board.{calls, called};
 
 use book::Judged;
 use compiler::Compiled;
-use drums::Drum;
+use drums::{Drum, Stepped};
 use moves::Part;
 use profile::Depth;
 use reader::Reading;
@@ -122,20 +125,35 @@ pub extern "C" fn drumbook_profile(book: &[u8], slots: u32) -> Depth
     profile::profile(book, slots)
 }
 
+// A call for the drum with a number: what a step makes of it is stored; where none stands on the list, none is touched.
+fn call<F: FnOnce(&Drum) -> Stepped>(
+    plan: &[u8],
+    drums: &mut [Drum],
+    number: u32,
+    step: F,
+) -> Reading
+    requires { F.IsAlwaysCallable step }
+    ensures { (made_of : List ℕ → Drum → ℕ → ℕ → Stepped) (kind : ℕ)
+        → ((made : Stepped) → FnOnceReturnsAt F.FnOnce step (get_or drums.old number idle_drum) made
+        → made ≡ made_of plan.now (get_or drums.old number idle_drum) number kind)
+        → calls result drums.new ≡ called made_of plan.now drums.old number kind }
+{
+    let at = number as usize;
+    if at < drums.len() {
+        let made = step(&drums[at]);
+        drums[at] = made.drum;
+        made.reading
+    } else {
+        drums::absent(plan)
+    }
+}
+
 // Opens a drum, for any bytes, drums and number: done or 8, 9 and 17.
 #[unsafe(no_mangle)]
 pub extern "C" fn drumbook_open(plan: &[u8], drums: &mut [Drum], number: u32) -> Reading
     ensures { calls result drums.new ≡ called open_of plan.now drums.old number 0 }
 {
-    let kind: u8 = 0;
-    let at = number as usize;
-    if at < drums.len() {
-        let opened = drums::open(plan, drums[at], number, kind);
-        drums[at] = opened.drum;
-        return opened.reading;
-    } else {
-        return drums::absent(plan);
-    }
+    call(plan, drums, number, |d| drums::open(plan, d, number, 0))
 }
 
 // Gives a drum an event, for any bytes, drums, number and kind: done or 8 to 13, 15, 17, 18 and 33.
@@ -144,14 +162,7 @@ pub extern "C" fn drumbook_event(plan: &[u8], drums: &mut [Drum], number: u32, k
     ensures { calls result drums.new
         ≡ called event_of plan.now drums.old number kind }
 {
-    let at = number as usize;
-    if at < drums.len() {
-        let taken = drums::event(plan, drums[at], number, kind);
-        drums[at] = taken.drum;
-        return taken.reading;
-    } else {
-        return drums::absent(plan);
-    }
+    call(plan, drums, number, |d| drums::event(plan, d, number, kind))
 }
 
 // Closes a drum, for any bytes, drums and number: done or 8, 9, 14, 17, 18 and 33.
@@ -159,15 +170,7 @@ pub extern "C" fn drumbook_event(plan: &[u8], drums: &mut [Drum], number: u32, k
 pub extern "C" fn drumbook_close(plan: &[u8], drums: &mut [Drum], number: u32) -> Reading
     ensures { calls result drums.new ≡ called close_of plan.now drums.old number 0 }
 {
-    let kind: u8 = 0;
-    let at = number as usize;
-    if at < drums.len() {
-        let closed = drums::close(plan, drums[at], number, kind);
-        drums[at] = closed.drum;
-        return closed.reading;
-    } else {
-        return drums::absent(plan);
-    }
+    call(plan, drums, number, |d| drums::close(plan, d, number, 0))
 }
 
 // A sample run of a book, for any bytes and any room: done, the book's own refusal, 24 or 25; the shortest lawful run,

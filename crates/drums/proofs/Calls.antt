@@ -5,16 +5,32 @@ use mathlib.Core.List.{List}
 use Prim.Native.Nat.{ℕ, ◌≤◌, ◌<◌}
 use borrow.Author.Tests.{eqb-true, eq-eqb, ne_eqb, lt-ltb, le-ltb}
 use lib.Dec.{ltb, eqb}
-use lib.ListN.{length}
 use Rattle.book.specs.Form.{DONE, judged}
 use Rattle.book.specs.declared.Judged.{Judged}
-use Rattle.plan.specs.Form.{plan_nodes_at, plan_count, plan_kinds, plan_judged, Runnable}
-use Rattle.plan.proofs.Runnable.{settings_inside}
+use native.Mathlib.Omega.{arith}
+use Rattle.plan.specs.Errors.{judged_by}
+use Rattle.plan.specs.declared.PlanError.{PlanError}
+use Rattle.plan.specs.declared.PlanError.TheVariants as error
+use Rattle.drums.specs.Errors.{refused_by}
+use Rattle.drums.specs.declared.DrumError.{DrumError}
+use Rattle.drums.specs.declared.DrumError.TheVariants as drum
+use Rattle.plan.specs.Form.{plan_count, plan_judged}
 use Rattle.reader.specs.declared.Reading.{Reading}
 use Rattle.reader.specs.Numbers.{answered}
 use Rattle.drums.specs.declared.Drum.{Drum}
 use Rattle.drums.specs.declared.Stepped.{Stepped}
 use Rattle.drums.specs.Drums.{NO-DRUM, board_drums, call_judged, drum_judged, kept, past, absent_of}
+
+-- what stands against a plan, and what refuses a call, has a number that is not DONE
+pub not_done : (error : PlanError) → (judged_by error).number ≡ DONE → ⊥
+not_done error.Form is = omega arith
+not_done (error.Cell place) is = omega arith
+
+pub not_passed : (error : DrumError) → (refused_by error).number ≡ DONE → ⊥
+not_passed (drum.Plan error) is = not_done error is
+not_passed drum.NoDrum is = omega arith
+not_passed drum.Idle is = omega arith
+not_passed drum.Stale is = omega arith
 
 -- a plan's form decides
 module _ (plan : List ℕ) {form : Judged} (is : form ≡ plan_judged plan) where
@@ -59,19 +75,6 @@ call_good plan number =
         → (cond good j (plan_judged plan)).number ≡ DONE → (plan_judged plan).number ≡ DONE
     by_form true j is done = eqb-true _ _ is
     by_form false j is done = done
-
-pub call_runs : {plan : List ℕ} (number : ℕ) {call : Judged} {count kinds : ℕ} → call ≡ call_judged plan number → call.number ≡ DONE
-    → count ≡ plan_count plan → kinds ≡ plan_kinds plan → Runnable plan count kinds
-call_runs {plan} number is done count_is kinds_is =
-    record {
-      good = call_good plan number (sym (ap (λ (j : Judged). j.number) is) ∙ done);
-      count_is = count_is;
-      kinds_is = kinds_is;
-    }
-
-pub call_inside : (plan : List ℕ) (number : ℕ) {call : Judged} → call ≡ call_judged plan number → call.number ≡ DONE
-    → plan_nodes_at ≤ length plan
-call_inside plan number is done = settings_inside plan (call_good plan number (sym (ap (λ (j : Judged). j.number) is) ∙ done))
 
 -- a refusal, and a test passed
 module _ {test j : Judged} (is : test ≡ j) (d : Drum) (rest : Stepped) where

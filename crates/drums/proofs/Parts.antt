@@ -3,17 +3,19 @@ use mathlib.Core.Path.{◌≡◌, refl, sym, ap, ap₂, ◌∙◌}
 use mathlib.Core.List.{List, [], ◌∷◌, ◌++◌}
 use Prim.Native.Nat.{ℕ, zero, suc, ◌-◌, ◌≤◌, ◌<◌}
 use native.Mathlib.Omega.{arith}
+use borrow.Rule.Slice.PartMut.{mid_of, put_mid}
 use lib.ListN.{length, get_or, set, take, length-append, length-replicate, get_or-append}
 use lib.Seq.{length-take-le, get_or-take, take-suc}
 use Rattle.words.specs.Words.{zeros}
 use Rattle.book.specs.Form.{DONE}
 use Rattle.running.specs.Running.{Plan}
 use Rattle.running.specs.Stages.{part}
-use Rattle.plan.specs.Form.{Runnable}
+use Rattle.plan.specs.Form.{plan_count}
 use Rattle.reader.specs.declared.Reading.{Reading}
 use Rattle.reader.specs.Numbers.{answered}
 use Rattle.reader.specs.Machine.{slot_of, node_in, label_in, stack, SlotsHold}
 use Rattle.reader.specs.Ready.{Ready}
+use Rattle.reader.proofs.Settles.{rest_cleared}
 use Rattle.reader.proofs.Slots.{stack-length}
 use Rattle.reader.proofs.Stops.{started}
 use Rattle.drums.specs.declared.Drum.{Drum}
@@ -69,8 +71,10 @@ module _ {nodes held : ℕ} {slots : List ℕ} (h : SlotsHold nodes drum_slots s
         labels = λ i under. rw (in_front i under) (h.labels i under);
       }
 
-  pub cleared_is : {after : List ℕ} → after ≡ take held slots ++ zeros (length slots - held) → after ≡ cleared slots held
-  cleared_is is = is ∙ ap (λ (n : ℕ). take held slots ++ zeros (n - held)) h.long
+  -- where the rest is filled with zeros, so are they
+  pub filled_is : {rest : List ℕ} → rest ≡ zeros (length (mid_of held (drum_slots - held) slots))
+      → put_mid held (drum_slots - held) slots rest ≡ cleared slots held
+  filled_is {rest} is = rw h.long at (rest_cleared slots rest held within (rw h.long is))
 
   pub after_hold : {after : List ℕ} → after ≡ cleared slots held → SlotsHold nodes (length after) after held
   after_hold is = rw (is, cleared_hold.long) cleared_hold
@@ -129,5 +133,5 @@ module _ {nodes : ℕ} {d : Drum} (s : Sound nodes d) where
   pub small_place : d.events < 65536
   small_place = omega (arith, s.few_events)
 
-  pub sound_ready : {plan : List ℕ} {kinds : ℕ} → Runnable plan nodes kinds → Ready plan nodes kinds d.held d.records d.slots
-  sound_ready runs = record { runs = runs; parts = whole_parts; few_records = omega (arith, s.parts.few, s.few_records) }
+  pub sound_ready : {plan : List ℕ} → nodes ≡ plan_count plan → Ready plan d.held d.records d.slots
+  sound_ready is = record { parts = rw is at whole_parts; few_records = omega (arith, s.parts.few, s.few_records) }

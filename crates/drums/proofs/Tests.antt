@@ -1,20 +1,40 @@
 -- The tests of a drum: idle, then stale.
-use mathlib.Core.Path.{◌≡◌, refl, sym}
+use mathlib.Core.Path.{◌≡◌, refl, sym, ◌∙◌}
 use mathlib.Core.Bool.{Bool, true, false, ◌&&◌, ◌||◌}
 use mathlib.Core.List.{List}
-use Prim.Native.Nat.{ℕ, ◌≤◌, ◌<◌}
+use Prim.Native.Nat.{ℕ, ◌≤◌, ◌<◌, min}
 use native.Mathlib.Omega.{arith}
 use borrow.Author.Tests.{ltb-true, ltb-false}
 use lib.Dec.{ltb, eqb}
 use lib.ListN.{length, get_or}
 use Rattle.words.specs.Lists.{every}
-use Rattle.words.proofs.FirstBad.{every_is}
-use Rattle.words.proofs.Tests.{never}
+use Rattle.lengths.specs.Falling.{smaller}
+use Rattle.std.proofs.lemmas.Bool.Decides.{nat_tests}
+use Rattle.std.specs.Bool.{MatchBool}
+use Rattle.std.specs.List.{AllWithin, HoldsAt}
+use Rattle.words.proofs.FirstBad.{every_is, every_good}
+use Rattle.words.proofs.Tests.{never, fails}
 use Rattle.book.specs.Form.{DONE, judged}
 use Rattle.reader.specs.Machine.{node_in, SlotsHold}
 use Rattle.drums.specs.declared.Drum.{Drum}
 use Rattle.drums.specs.Drums.{IDLE, STALE, drum_slots, most_events, most_records, idle, nodes_held, stale, drum_judged}
 use Rattle.drums.specs.Sound.{Sound}
+
+-- the library's smaller number
+pub smaller_is : (a b : ℕ) → min a b ≡ smaller a b
+smaller_is a b = grind (arith, nat_tests)
+
+-- what `all` says of a list that a test is made of, number by number
+pub every_by : (good : ℕ → Bool) (cells : List ℕ) (r : Bool) (Yes No : ℕ → Type 0) {count : ℕ} → count ≡ length cells
+    → ((i : ℕ) → i < count → Yes (get_or cells i 0) → good i ≡ true) → ((i : ℕ) → i < count → No (get_or cells i 0) → good i ≡ false)
+    → MatchBool r (AllWithin Yes cells 0 (length cells)) ((k : ℕ) × (k < length cells) × HoldsAt No cells k)
+    → r ≡ every good count
+every_by good cells true Yes No {count} long if-yes if-no met =
+    sym (every_good good count (λ i below. if-yes i below (met i 0 (omega arith) (omega (arith, long, below)))))
+every_by good cells false Yes No {count} long if-yes if-no met =
+    let (k, below, fails-here) = met in
+    let within : k < count = omega (arith, long, below) in
+    sym (fails _ (λ all. never (sym (if-no k within (fails-here 0)) ∙ every_is good count all k within)))
 
 -- so many slots hold nodes
 pub nodes_hold : {nodes held : ℕ} (slots : List ℕ) → held ≤ length slots → ((i : ℕ) → i < held → get_or slots i 0 < 4294967296)

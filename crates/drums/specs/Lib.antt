@@ -1,2 +1,3 @@
 pub mod Drums
 pub mod Sound
+pub mod Errors

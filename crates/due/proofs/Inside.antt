@@ -5,7 +5,7 @@ use native.Mathlib.Decide.{dec_lt}
 use mathlib.Core.Path.{◌≡◌, refl, sym, ◌∙◌}
 use mathlib.Core.Bool.{Bool, true, false, ◌&&◌, false≢true}
 use mathlib.Core.Logic.{◌⊎◌, inl, inr}
-use mathlib.Core.List.{List, [], ◌∷◌}
+use mathlib.Core.List.{List, []}
 use lib.Dec.{eqb}
 use lib.ListN.{length, take, get_or}
 use borrow.Author.Tests.{eqb-true, le-leb}
@@ -23,6 +23,7 @@ use Rattle.trees.specs.Trees.{is_emptied}
 use Rattle.trees.specs.Machine.{Powers, PowersOf, State, state, next, opened, kept, lapsed, stands, blank, allows, behind, goes, reads, read_tree}
 use Rattle.trees.proofs.ReadTrees.{Before, read_before}
 use Rattle.due.specs.Due.{due_nodes, DueBelow}
+use Rattle.due.proofs.Below.{second_below}
 
 -- what is due and what is held are nodes below a count
 pub record Inside (count : ℕ) (s : State) : Type 0 where
@@ -53,10 +54,7 @@ module _ {count : ℕ} where
 
   right_below : {l r : ℕ} → DueBelow count (Both l r) → r < count
   unfolding due_nodes
-  right_below d = go d.below
-    where
-      go : {l r : ℕ} → Below count (l ∷ r ∷ []) → r < count
-      go (below_more h (below_more i none)) = i
+  right_below d = second_below d.below
 
   inside-next : {held : List ℕ} → Below count held → Inside count (next held)
   unfolding next

@@ -2,4 +2,4 @@ pub mod Below
 pub mod Found
 pub mod Looking
 pub mod Inside
-pub mod Powers
+pub mod Able

@@ -5,13 +5,13 @@ use mathlib.Core.Path.{◌≡◌, refl, sym, ◌∙◌}
 use mathlib.Core.Bool.{Bool, true, false}
 use mathlib.Core.List.{List}
 use lib.ListN.{get_or}
+use borrow.Author.Tests.{le-leb, lt-leb}
 use Rattle.book.specs.Book.{Book}
 use Rattle.book.specs.declared.Node.{Node}
 use Rattle.trees.specs.declared.Due.{Due}
 use Rattle.trees.specs.declared.Due.TheVariants.{Nothing, Part}
 use Rattle.trees.specs.Trees.{is_emptied}
 use Rattle.trees.specs.Back.{found_at, whole_from, found_or, front, back, due_at}
-use Rattle.due.specs.Due.{is_nothing}
 use Rattle.due.proofs.Found.{whole_from_most, found_some, found_none, front-whole}
 
 pub record Looking (b : Book) (records : List ℕ) (from at whole : ℕ) (empty : Bool) : Type 0 where
@@ -40,7 +40,7 @@ module _ {b : Book} {records : List ℕ} {from : ℕ} where
     unfolding back
     over is = sym (rw is refl) ∙ looking.leads
 
-    past_node : is_emptied (get_or records i 0) ≡ false → is_nothing (found_at (b.node (get_or records i 0)) whole empty) ≡ true
+    past_node : is_emptied (get_or records i 0) ≡ false → found_at (b.node (get_or records i 0)) whole empty ≡ Nothing
         → Looking b records from i (whole_from (b.node (get_or records i 0)) whole) false
     past_node is none =
         record {
@@ -48,7 +48,7 @@ module _ {b : Book} {records : List ℕ} {from : ℕ} where
           few = omega (arith, looking.few, whole_from_most (b.node (get_or records i 0)) whole);
         }
 
-    past_found : is_emptied (get_or records i 0) ≡ false → is_nothing (found_at (b.node (get_or records i 0)) whole empty) ≡ false
+    past_found : is_emptied (get_or records i 0) ≡ false → (found_at (b.node (get_or records i 0)) whole empty ≡ Nothing → ⊥)
         → found_at (b.node (get_or records i 0)) whole empty ≡ due_at b records from
     past_found is some = sym (found_some (found_at (b.node (get_or records i 0)) whole empty) _ some) ∙ over is
 
@@ -56,19 +56,23 @@ module _ {b : Book} {records : List ℕ} {from : ℕ} where
       → Looking b records from (suc (at - 1)) whole empty
   one_less {at} some looking = let same : suc (at - 1) ≡ at = omega arith in rw same looking
 
-  module _ {at whole : ℕ} {empty : Bool} (some : 0 < at) (looking : Looking b records from at whole empty) where
-    pub over_emptied : is_emptied (get_or records (at - 1) 0) ≡ true → Looking b records from (at - 1) (whole + 1) true
-    over_emptied is = past-emptied (one_less some looking) is
+  module _ {at whole : ℕ} {empty : Bool} (some : 0 < at) (looking : Looking b records from at whole empty) {given : ℕ}
+      (given-is : given ≡ get_or records (at - 1) 0) where
+    pub over_emptied : 32768 ≤ given → Looking b records from (at - 1) (whole + 1) true
+    over_emptied is = past-emptied (one_less some looking) (rw given-is at (le-leb _ _ is))
 
     -- the node of the record, and what is found there
-    module _ {top : Node} {found : Due} (given : is_emptied (get_or records (at - 1) 0) ≡ false)
-        (node_is : top ≡ b.node (get_or records (at - 1) 0)) (found-is : found ≡ found_at top whole empty) where
-      pub over_node : {now : ℕ} → is_nothing found ≡ true → now ≡ whole_from top whole → Looking b records from (at - 1) now false
-      over_node none now-is = rw (now-is, node_is) (past_node (one_less some looking) given (rw (found-is, node_is) at none))
+    module _ {top : Node} {found : Due} (less : given < 32768) (node_is : top ≡ b.node given) (found-is : found ≡ found_at top whole empty) where
+      a_node : is_emptied (get_or records (at - 1) 0) ≡ false
+      a_node = rw given-is at (lt-leb _ _ less)
 
-      pub found_here : is_nothing found ≡ false → found ≡ due_at b records from
+      pub over_node : {now : ℕ} → found ≡ Nothing → now ≡ whole_from top whole → Looking b records from (at - 1) now false
+      over_node none now-is =
+          rw (now-is, node_is, given-is) (past_node (one_less some looking) a_node (rw (found-is, node_is, given-is) at none))
+
+      pub found_here : (found ≡ Nothing → ⊥) → found ≡ due_at b records from
       found_here here =
-          rw (found-is, node_is) (past_found (one_less some looking) given (rw (found-is, node_is) at here))
+          rw (found-is, node_is, given-is) (past_found (one_less some looking) a_node (rw (found-is, node_is, given-is) at here))
 
   -- past the front
   module _ {at whole : ℕ} {empty : Bool} (none : at ≤ 0) (looking : Looking b records from at whole empty) where

@@ -16,59 +16,76 @@ pub fn contents_size(sections: usize) -> usize
     2 + 6 * sections
 }
 
-// Whether a contents entry is this section, offset and size.
-fn entry_is(bytes: &[u8], at: usize, section: usize, offset: usize, size: usize) -> bool
-    requires { at + 6 ≤ length bytes.now }
-    ensures { result ≡ words_are bytes.now at (section ∷ offset ∷ size ∷ []) }
-{
-    (u16_at(bytes, at) == section)
-        & (u16_at(bytes, at + 2) == offset)
-        & (u16_at(bytes, at + 4) == size)
+// A contents entry: a section's number, its offset and its size.
+#[derive(Clone, Copy)]
+struct Entry {
+    section: usize,
+    offset: usize,
+    size: usize,
+}
+
+impl Entry {
+    // Whether it stands in bytes at a place.
+    fn stands(self, bytes: &[u8], at: usize) -> bool
+        requires { at + 6 ≤ length bytes.now }
+        ensures { result ≡ words_are bytes.now at (self.section ∷ self.offset ∷ self.size ∷ []) }
+    {
+        u16_at(bytes, at) == self.section
+            && u16_at(bytes, at + 2) == self.offset
+            && u16_at(bytes, at + 4) == self.size
+    }
+
+    // Writes it into bytes at a place.
+    #[tactic(auto, using(crate::proofs::Entries::entry_stored))]
+    fn put(self, bytes: &mut [u8], at: usize)
+        requires { (at + 6 ≤ length bytes.old) × (self.section < 65536) × (self.offset < 65536) × (self.size < 65536) }
+        ensures { bytes.new ≡ sets bytes.old at (word_bytes (self.section ∷ self.offset ∷ self.size ∷ [])) }
+    {
+        put_u16(bytes, at, self.section);
+        put_u16(bytes, at + 2, self.offset);
+        put_u16(bytes, at + 4, self.size);
+    }
 }
 
 // Whether bytes begin with the contents of a form.
+#[tactic(auto, using(crate::proofs::Contents::contents_within, crate::proofs::Entries::section_within, crate::proofs::Entries::entry_within))]
 pub fn contents_are(bytes: &[u8], sizes: &[usize]) -> bool
     requires { form_size sizes.now ≤ length bytes.now }
     ensures { result ≡ contents_are bytes.now sizes.now }
 {
-    let mut all = u16_at(bytes, 0) == sizes.len();
-    let mut at = 2;
-    let mut offset = 2 + 6 * sizes.len();
-    let mut i = 0;
-    while i < sizes.len() {
-        let size = sizes[i];
-        i += 1;
-        all = all & entry_is(bytes, at, i, offset, size);
-        at += 6;
-        offset += size;
+    if u16_at(bytes, 0) != sizes.len() {
+        return false;
     }
-    all
-}
-
-// Writes a contents entry: section number, offset, size.
-fn put_entry(bytes: &mut [u8], at: usize, section: usize, offset: usize, size: usize)
-    requires { (at + 6 ≤ length bytes.old) × (section < 65536) × (offset < 65536) × (size < 65536) }
-    ensures { bytes.new ≡ sets bytes.old at (word_bytes (section ∷ offset ∷ size ∷ [])) }
-{
-    put_u16(bytes, at, section);
-    put_u16(bytes, at + 2, offset);
-    put_u16(bytes, at + 4, size);
+    let mut offset = 2 + 6 * sizes.len();
+    for (i, size) in sizes.iter().enumerate() {
+        let entry = Entry {
+            section: i + 1,
+            offset,
+            size: *size,
+        };
+        if !entry.stands(bytes, 2 + 6 * i) {
+            return false;
+        }
+        offset += *size;
+    }
+    true
 }
 
 // Writes the contents of a form.
+#[tactic(auto, using(crate::proofs::Contents::contents_within, crate::proofs::Entries::section_within, crate::proofs::Entries::entry_within, crate::proofs::Entries::entered_all))]
 pub fn put_contents(bytes: &mut [u8], sizes: &[usize])
     requires { (form_size sizes.now ≤ length bytes.old) × (form_size sizes.now < 65536) }
     ensures { bytes.new ≡ sets bytes.old 0 (word_bytes (contents_of sizes.now)) }
 {
     put_u16(bytes, 0, sizes.len());
-    let mut at = 2;
     let mut offset = 2 + 6 * sizes.len();
-    let mut i = 0;
-    while i < sizes.len() {
-        let size = sizes[i];
-        i += 1;
-        put_entry(bytes, at, i, offset, size);
-        at += 6;
-        offset += size;
+    for (i, size) in sizes.iter().enumerate() {
+        let entry = Entry {
+            section: i + 1,
+            offset,
+            size: *size,
+        };
+        entry.put(bytes, 2 + 6 * i);
+        offset += *size;
     }
 }

@@ -2,18 +2,16 @@
 use Prim.Native.Nat.{ℕ, zero, suc, ◌+◌, ◌-◌, ◌/◌, ◌≤◌, ◌<◌}
 use native.Mathlib.Omega.{arith}
 use native.Mathlib.Numerals.{add-one}
-use borrow.Author.Tests.{lt-ltb, le-ltb}
 use mathlib.Core.Path.{◌≡◌, refl, sym, ap, ap₂, ◌∙◌, subst}
 use mathlib.Core.Bool.{Bool, true, false, cond}
 use mathlib.Core.List.{List, [], ◌∷◌, ◌++◌, append_assoc, append-nil}
 use lib.Dec.{ltb}
-use lib.ListN.{length, get_or, set, length-set, length-append, length-replicate}
+use lib.ListN.{length, get_or, set, length-append, length-replicate}
 use lib.Seq.{sets, length-sets, get_or-set_same, get_or-set_other}
 use Rattle.words.specs.Words.{zeros}
 use Rattle.words.proofs.Stored.{sets_then, sets-zeros}
 use Rattle.book.specs.declared.Node.{Node}
 use Rattle.book.specs.Book.{Book, Proper, fail_is, empty_is, token_is, either_is, then_is, tagged_is, ref_is}
-use Rattle.book.specs.Form.{book_of}
 use Rattle.rules.specs.Step.{left_from, right_from, kind_of}
 use Rattle.weights.specs.Weight.{weight_at}
 use Rattle.weights.proofs.Weighing.{head_small}
@@ -22,7 +20,7 @@ use Rattle.sampling.specs.Parts.{events_of, due_before, parts_on, sum_over, visi
 use Rattle.sampling.proofs.Rows.{Visited, row_visit, fits_one, fits_visit, fits_few}
 use Rattle.sampling.proofs.Best.{best_weight}
 use Rattle.sampling.proofs.Writing.{DEPTH, sample_due, book_kinded}
-use Rattle.laying.specs.Stacked.{stacked, Pushed, Ready, Wrote}
+use Rattle.laying.specs.Stacked.{stacked, Ready, Wrote}
 
 -- ---- parts in a list
 
@@ -43,50 +41,21 @@ unfolding stacked
 stacked_top parts zero some = absurd (omega arith)
 stacked_top parts (suc held) some = let less : suc held - 1 ≡ held = omega arith in rw less refl
 
--- nothing is put
-pub pushed_none : (parts : List ℕ) (most held : ℕ) → held ≤ most → Pushed parts parts most held (stacked parts held)
-pushed_none parts most held few = record { due_are = refl; few = few; long = refl }
+-- so many places have so many parts, and none has none
+pub stacked_held : (parts : List ℕ) (held : ℕ) {due : List ℕ} → stacked parts held ≡ due → held ≡ length due
+stacked_held parts held are = sym (stacked-length parts held) ∙ ap length are
+
+pub stacked_none : (parts : List ℕ) {held : ℕ} → held ≡ 0 → stacked parts held ≡ []
+unfolding stacked
+stacked_none parts none = rw none refl
 
 -- one part is put
-pub pushed_one : (parts : List ℕ) (held n : ℕ) → held < length parts
-    → Pushed parts (set parts held n) (held + 1) (held + 1) (n ∷ stacked parts held)
+pub stacked_put : (parts : List ℕ) (held n : ℕ) → held < length parts → stacked (set parts held n) (held + 1) ≡ n ∷ stacked parts held
 unfolding stacked
-pushed_one parts held n inside = record {
-  due_are = rw add-one is;
-  few = omega arith;
-  long = length-set parts held n;
-}
+stacked_put parts held n inside = rw add-one is
   where
     is : stacked (set parts held n) (suc held) ≡ n ∷ stacked parts held
     is = ap₂ (λ (x : ℕ) (xs : List ℕ). x ∷ xs) (get_or-set_same parts held n 0 inside) (stacked-set parts held n held (omega arith))
-
--- with room for more than that, and as another list
-pub pushed_as : {before after : List ℕ} {most more held : ℕ} {due other : List ℕ} → most ≤ more → due ≡ other
-    → Pushed before after most held due → Pushed before after more held other
-pushed_as {most = most} {more = more} le is pushed = record {
-  due_are = pushed.due_are ∙ is;
-  few = omega (arith, pushed.few);
-  long = pushed.long;
-}
-
--- a part whose best run is empty is left out, another is put
-pub pushed_light : (parts : List ℕ) (held n weight : ℕ) → weight < 64
-    → Pushed parts parts (held + 1) held (due_before weight n (stacked parts held))
-pushed_light parts held n weight light = rw (lt-ltb weight 64 light) (pushed_none parts (held + 1) held (omega arith))
-
-pub pushed_heavy : {before after due : List ℕ} {most held n : ℕ} (weight : ℕ) → 64 ≤ weight → Pushed before after most held (n ∷ due)
-    → Pushed before after most held (due_before weight n due)
-pushed_heavy weight heavy pushed = rw (le-ltb weight 64 heavy) pushed
-
--- parts are put on top of others
-pub pushed_then : {first second third : List ℕ} {most more held last : ℕ} {due : List ℕ} (top : List ℕ → List ℕ)
-    → Pushed first second most held due → Pushed second third (held + 1) last (top (stacked second held)) → most + 1 ≤ more
-    → Pushed first third more last (top due)
-pushed_then top one two le = record {
-  due_are = two.due_are ∙ ap top one.due_are;
-  few = omega (arith, one.few, two.few);
-  long = two.long ∙ one.long;
-}
 
 -- ---- the sides of a proper node
 
@@ -111,30 +80,26 @@ right_zero below (ref_is l) = omega arith
 -- ---- writing
 
 -- so much of the sample is written, and the parts that are due write the rest
-pub record Writing (bytes weights : List ℕ) (room : ℕ) (parts : List ℕ) (held at : ℕ) (out : List ℕ) : Type 0 where
+pub record Writing (b : Book) (weights : List ℕ) (room : ℕ) (parts : List ℕ) (at : ℕ) (out : List ℕ) : Type 0 where
   pub written : List ℕ
   pub rest : List ℕ
-  pub sample : Sample (book_of bytes) (written ++ rest)
+  pub sample : Sample b (written ++ rest)
   pub fits_room : length (written ++ rest) ≤ room
   pub out_is : out ≡ sets (zeros room) 0 written
   pub at_is : at ≡ length written
-  pub row : Row (book_of bytes).node (weight_at weights) (book_of bytes).count DEPTH (stacked parts held) rest
-  pub fits : Fits (weight_at weights) (book_of bytes).count (stacked parts held)
-  pub long : length parts ≡ 513
+  pub row : Row b.node (weight_at weights) b.count DEPTH parts rest
+  pub fits : Fits (weight_at weights) b.count parts
 
 -- how many nodes are still visited
-abbrev pub visits_left : List ℕ → List ℕ → List ℕ → ℕ → ℕ
-visits_left bytes weights parts held = sum_over (visits (book_of bytes).node (weight_at weights) DEPTH) (stacked parts held)
+abbrev pub visits_left : Book → List ℕ → List ℕ → ℕ
+visits_left b weights parts = sum_over (visits b.node (weight_at weights) DEPTH) parts
 
 -- the buffer is as long as it was
-pub writing_long : {bytes weights parts out : List ℕ} {room held at : ℕ} → Writing bytes weights room parts held at out → length out ≡ room
+pub writing_long : {b : Book} {weights parts out : List ℕ} {room at : ℕ} → Writing b weights room parts at out → length out ≡ room
 writing_long {room = room} writing =
     ap length writing.out_is ∙ length-sets (zeros room) 0 writing.written ∙ length-replicate room 0
 
-module _ {bytes weights : List ℕ} {room : ℕ} (ready : Ready bytes weights room) where
-  abbrev b : Book
-  b = book_of bytes
-
+module _ {b : Book} {weights : List ℕ} {room : ℕ} (ready : Ready b weights room) where
   -- the sample is as long as its weight says
   pub sample_length : {run : List ℕ} → Sample b run → length run ≡ weight_at weights b.start / 64
   sample_length {run} sample =
@@ -144,62 +109,43 @@ module _ {bytes weights : List ℕ} {room : ℕ} (ready : Ready bytes weights ro
   pub start_inside : {start : ℕ} → start ≡ b.start → start < length weights
   start_inside is = omega (arith, is, ready.passes.well_formed.start_below, ready.passes.well_formed.few_nodes, ready.long)
 
-  -- the node that is read is that of the part on top
-  pub read_as : (n : ℕ) {node : Node} {top : ℕ} → node ≡ b.node n → n ≡ top → node ≡ b.node top
-  read_as n read is = read ∙ ap b.node is
-
   -- before the first visit the start is due, if anything is
-  pub writing_none : {start : ℕ} {before parts out : List ℕ} {most held : ℕ} → start ≡ b.start → length before ≡ 513 → out ≡ zeros room
-      → Pushed before parts most held (due_before (weight_at weights start) start (stacked before 0))
-      → Writing bytes weights room parts held 0 out
-  unfolding stacked
-  writing_none {start} {before} {parts} {most = most} {held = held} is long clear given =
-      let pushed = subst (λ n. Pushed before parts most held (due_before (weight_at weights n) n [])) is given in
+  pub writing_none : {start : ℕ} {parts out : List ℕ} → start ≡ b.start → out ≡ zeros room
+      → parts ≡ due_before (weight_at weights start) start [] → Writing b weights room parts 0 out
+  writing_none {start} {parts} is clear given =
+      let due_are : parts ≡ due_before (weight_at weights b.start) b.start [] = rw is at given in
       let due = sample_due b ready.passes weights ready.are ready.short in
-      record {
+      rw due_are
+      (record {
         written = [];
         rest = due.run;
         sample = due.sample;
         fits_room = omega (arith, sample_length due.sample, ready.fits);
         out_is = clear;
         at_is = refl;
-        row = subst (λ xs. Row b.node (weight_at weights) b.count DEPTH xs due.run) (sym pushed.due_are) due.row;
-        fits = subst (Fits (weight_at weights) b.count) (sym pushed.due_are) (due_fits (ltb (weight_at weights b.start) 64));
-        long = pushed.long ∙ long;
-      }
+        row = due.row;
+        fits = due_fits (ltb (weight_at weights b.start) 64);
+      })
     where
       due_fits : (t : Bool) → Fits (weight_at weights) b.count (cond t [] (b.start ∷ []))
       due_fits true = fits_none
       due_fits false = fits_one (weight_at weights) b.count b.start ready.passes.well_formed.start_below
 
-  -- one visit
-  module _ {parts out : List ℕ} {held at : ℕ} (writing : Writing bytes weights room parts held at out) (some : 0 < held) where
-    abbrev top : ℕ
-    top = get_or parts (held - 1) 0
-
-    abbrev under : List ℕ
-    under = stacked parts (held - 1)
-
+  -- one visit, of the part on top of others
+  module _ {parts out : List ℕ} {at : ℕ} (writing : Writing b weights room parts at out) {top : ℕ} {under : List ℕ}
+      (popped : parts ≡ top ∷ under) where
     visit : Visited b.node (weight_at weights) b.count 33619967 top under writing.rest
-    visit =
-        row_visit
-        (subst (λ xs. Row b.node (weight_at weights) b.count DEPTH xs writing.rest) (stacked_top parts held some) writing.row)
+    visit = row_visit (subst (λ xs. Row b.node (weight_at weights) b.count DEPTH xs writing.rest) popped writing.row)
 
     top_fits : Fits (weight_at weights) b.count (top ∷ under)
-    top_fits = subst (Fits (weight_at weights) b.count) (stacked_top parts held some) writing.fits
+    top_fits = subst (Fits (weight_at weights) b.count) popped writing.fits
 
     pub visit-inside : top < b.count
     visit-inside = visit.inside
 
-    pub visit_few : held - 1 < b.count
-    visit_few = omega (arith, fits_few (weight_at weights) top_fits, stacked-length parts (held - 1))
-
-    -- the part stands in the list, and there is room for two parts in its place
-    pub place_inside : held - 1 < length parts
-    place_inside = omega (arith, visit_few, ready.passes.well_formed.few_nodes, writing.long)
-
-    pub room_inside : held - 1 + 1 < length parts
-    room_inside = omega (arith, visit_few, ready.passes.well_formed.few_nodes, writing.long)
+    -- there is room for two parts in its place
+    pub room_inside : length under + 1 < 513
+    room_inside = omega (arith, fits_few (weight_at weights) top_fits, ready.passes.well_formed.few_nodes)
 
     module _ {node : Node} (read : node ≡ b.node top) where
       pub visit_kind : kind_of node < 64
@@ -231,13 +177,12 @@ module _ {bytes weights : List ℕ} {room : ℕ} (ready : Ready bytes weights ro
             length-append writing.written (events_of node),
           )
 
-      module _ {after then : List ℕ} {most held_then at-then : ℕ} (put : after ≡ sets out at (events_of node))
-          (at_is : at-then ≡ at + length (events_of node))
-          (pushed : Pushed parts then most held_then (parts_on node (weight_at weights) under)) where
-        due_is : stacked then held_then ≡ parts_on (b.node top) (weight_at weights) under
-        due_is = pushed.due_are ∙ ap (λ x. parts_on x (weight_at weights) under) read
+      module _ {after then : List ℕ} {at-then : ℕ} (put : after ≡ sets out at (events_of node)) (at_is : at-then ≡ at + length (events_of node))
+          (pushed : then ≡ parts_on node (weight_at weights) under) where
+        due_is : then ≡ parts_on (b.node top) (weight_at weights) under
+        due_is = pushed ∙ ap (λ x. parts_on x (weight_at weights) under) read
 
-        pub writing_more : Writing bytes weights room then held_then at-then after
+        pub writing_more : Writing b weights room then at-then after
         writing_more = record {
           written = writing.written ++ events_of node;
           rest = visit.rest;
@@ -249,21 +194,19 @@ module _ {bytes weights : List ℕ} {room : ℕ} (ready : Ready bytes weights ro
           at_is = omega (arith, at_is, writing.at_is, length-append writing.written (events_of node));
           row = subst (λ xs. Row b.node (weight_at weights) b.count DEPTH xs visit.rest) (sym due_is) visit.row;
           fits = subst (Fits (weight_at weights) b.count) (sym due_is) (fits_visit (weight_at weights) top_fits visit);
-          long = pushed.long ∙ writing.long;
         }
 
-        pub writing_fewer : visits_left bytes weights then held_then < visits_left bytes weights parts held
-        writing_fewer = rw (due_is, stacked_top parts held some) visit.fewer
+        pub writing_fewer : visits_left b weights then < visits_left b weights parts
+        writing_fewer = rw (due_is, popped) visit.fewer
 
   -- when nothing is due, the sample is written
-  pub writing_end : {parts out : List ℕ} {held at : ℕ} → Writing bytes weights room parts held at out → held ≤ 0 → Wrote bytes out room
-  unfolding stacked
-  writing_end {parts} {out} {held} writing end =
+  pub writing_end : {parts out : List ℕ} {at : ℕ} → Writing b weights room parts at out → parts ≡ [] → Wrote b out room
+  writing_end {parts} {out} writing end =
       record {
         run = writing.written ++ writing.rest;
         sample = writing.sample;
         out_is =
-            rw (over (omega arith) writing.row, append-nil writing.written)
+            rw (over end writing.row, append-nil writing.written)
             (writing.out_is ∙ sets-zeros room writing.written
             (omega (arith, writing.fits_room, length-append writing.written writing.rest)));
       }
@@ -271,5 +214,5 @@ module _ {bytes weights : List ℕ} {room : ℕ} (ready : Ready bytes weights ro
       nothing : {rest : List ℕ} {depth : ℕ} → Row b.node (weight_at weights) b.count depth [] rest → rest ≡ []
       nothing row_none = refl
 
-      over : {rest : List ℕ} → held ≡ 0 → Row b.node (weight_at weights) b.count DEPTH (stacked parts held) rest → rest ≡ []
-      over {rest} none row = nothing (subst (λ n. Row b.node (weight_at weights) b.count DEPTH (stacked parts n) rest) none row)
+      over : {rest : List ℕ} → parts ≡ [] → Row b.node (weight_at weights) b.count DEPTH parts rest → rest ≡ []
+      over {rest} none row = nothing (subst (λ xs. Row b.node (weight_at weights) b.count DEPTH xs rest) none row)

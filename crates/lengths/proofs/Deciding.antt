@@ -1,5 +1,5 @@
--- The least lengths of nodes exist apart from the code, and compute: on a list of lengths turns upward are made until one changes nothing.
-use Prim.Native.Nat.{ℕ, zero, suc, ◌+◌, ◌≤◌, ◌<◌}
+-- The least measures of nodes exist apart from the code, and compute: on a list of measures turns upward are made until one changes nothing.
+use Prim.Native.Nat.{ℕ, zero, suc, ◌≤◌, ◌<◌}
 use native.Mathlib.Omega.{arith}
 use borrow.Author.Tests.{ltb-true, ltb-false}
 use mathlib.Core.Path.{◌≡◌, refl}
@@ -9,81 +9,105 @@ use lib.Dec.{ltb}
 use lib.ListN.{length, set, replicate}
 use Rattle.book.specs.declared.Node.{Node}
 use Rattle.book.specs.declared.Node.TheVariants.{Fail}
-use Rattle.rules.specs.Growth.{total, Sound}
-use Rattle.rules.proofs.Growing.{Turning, turning_none, turning_more, turning_end, grown_sound, Settling, settling_none, settling_more}
+use Rattle.rules.specs.Growth.{total, Sound, Visited}
+use Rattle.rules.proofs.Growing.{grown_none, grown_sound, Turning, Below, turning_none, turning_more, turning_end}
+use Rattle.rules.proofs.Growing.{Settling, settling_none, settling_more}
 use Rattle.lengths.specs.Least.{length_at, LeastCut}
-use Rattle.lengths.specs.Falling.{length_of, at_most, ShortAt, NoLonger, Fresh, Shortened}
-use Rattle.lengths.proofs.Lowering.{fresh_caps, fresh_sound, visit-kept, visit_lowers, changed_less, turned_lengths}
+use Rattle.lengths.specs.Measures.{MeasureLaws, length_laws}
+use Rattle.lengths.specs.Falling.{measure_at, measure_by, at_most, SomeAt, NoMore, AllCap, Leasts}
+use Rattle.lengths.proofs.Kinded.{Kinded}
+use Rattle.lengths.proofs.Lowering.{all_cap, caps_sound, kept_closed, visit_lowers, changed_less, turned_leasts}
+use Rattle.lengths.proofs.Lengths.{least_cut}
+
+module _ {cap : ℕ} {token : ℕ → ℕ} {joined : ℕ → ℕ → ℕ} {size : List ℕ → ℕ} (laws : MeasureLaws cap token joined size) (node : ℕ → Node)
+    (kinded : Kinded node) where
+  -- numbers that are the least measures of all nodes
+  pub record LeastTable : Type 0 where
+    pub table : List ℕ
+    pub are : Leasts cap size node table
+
+  -- a list on which a node has been visited
+  pub record Visit (n : ℕ) (before : List ℕ) : Type 0 where
+    pub after : List ℕ
+    pub changed : Bool
+    pub visited : Visited (at_most cap) (SomeAt cap size node) (NoMore cap token joined node) n before after changed
+
+  unfoldable pub lower : (n : ℕ) (table : List ℕ) → Sound (at_most cap) (SomeAt cap size node) table → n < length table → Visit n table
+  lower n table sound inside = by (own (measure_at cap table)) refl (ltb (own (measure_at cap table)) (measure_at cap table n)) refl
+    where
+      own : (ℕ → ℕ) → ℕ
+      own = measure_by cap token joined (node n)
+
+      by : (new : ℕ) → new ≡ own (measure_at cap table) → (less : Bool) → ltb (own (measure_at cap table)) (measure_at cap table n) ≡ less
+          → Visit n table
+      by new is true e =
+          record {
+            after = set table n new;
+            changed = true;
+            visited = visit_lowers laws kinded refl is sound inside (omega (arith, is, ltb-true (own (measure_at cap table)) (measure_at cap table n) e));
+          }
+      by new is false e =
+          record {
+            after = table;
+            changed = false;
+            visited = record {
+              grown = grown_none table;
+              closed = λ still. kept_closed laws refl is (omega (arith, is, ltb-false (own (measure_at cap table)) (measure_at cap table n) e));
+            };
+          }
+
+  -- a list on which the nodes below a number have been visited
+  pub record Steps (before : List ℕ) (i : ℕ) : Type 0 where
+    pub after : List ℕ
+    pub changed : Bool
+    pub turning : Turning (at_most cap) (SomeAt cap size node) (NoMore cap token joined node) (Below i) before after changed
+
+  unfoldable pub climb : (table : List ℕ) → Sound (at_most cap) (SomeAt cap size node) table → (i : ℕ) → i ≤ length table → Steps table i
+  climb table sound zero inside =
+      record { after = table; changed = false; turning = turning_none table (λ n below. omega (arith, below)) }
+  climb table sound (suc i) inside = more (climb table sound i (omega arith))
+    where
+      more : Steps table i → Steps table (suc i)
+      more so_far =
+          let next = lower i so_far.after (grown_sound so_far.turning.grown sound) (omega (arith, so_far.turning.grown.long)) in
+          record {
+            after = next.after;
+            changed = so_far.changed || next.changed;
+            turning = turning_more so_far.turning next.visited (λ m below other. omega (arith, below, other));
+          }
+
+  module _ (count : ℕ) (beyond : (n : ℕ) → count ≤ n → node n ≡ Fail) (fresh : List ℕ) (caps : AllCap cap count fresh) where
+    module _ (table : List ℕ) (settling : Settling (at_most cap) (SomeAt cap size node) fresh table) where
+      unfoldable pub turn : Steps table count
+      turn = climb table settling.sound count (omega (arith, caps.long, settling.long))
+
+      -- the least measures by a turn, given those by what it changed
+      unfoldable pub rested
+          : ((after : List ℕ) → Settling (at_most cap) (SomeAt cap size node) fresh after → total after < total table → LeastTable)
+          → (changed : Bool) → turn.changed ≡ changed → LeastTable
+      rested more true e = more turn.after (settling_more settling turn.turning.grown) (changed_less turn.turning.grown e)
+      rested more false e =
+          record { table = turn.after; are = turned_leasts laws kinded beyond caps settling (turning_end turn.turning (λ n below. below)) e }
+
+    -- turns until one changes nothing
+    unfoldable pub rest : (left : ℕ) (table : List ℕ) → Settling (at_most cap) (SomeAt cap size node) fresh table → total table ≤ left → LeastTable
+    rest zero table settling enough = rested table settling (λ after falling less. absurd (omega arith)) (turn table settling).changed refl
+    rest (suc left) table settling enough =
+        rested table settling (λ after falling less. rest left after falling (omega arith)) (turn table settling).changed refl
+
+  -- the least measures of nodes of which none stands from a count on
+  abbrev pub least : (count : ℕ) → ((n : ℕ) → count ≤ n → node n ≡ Fail) → LeastTable
+  least count beyond =
+      rest count beyond (replicate count cap) (all_cap cap count) (total (replicate count cap)) (replicate count cap)
+      (settling_none (caps_sound (all_cap cap count))) (omega arith)
 
 -- numbers that are the least lengths of all nodes, cut at 65,536
 pub record LeastLengths (node : ℕ → Node) : Type 0 where
   pub lengths : List ℕ
   pub are : (n : ℕ) → LeastCut node (node n) 65536 (length_at lengths n)
 
-module _ (node : ℕ → Node) where
-  -- a list on which a node has been visited
-  pub record Visit (n : ℕ) (before : List ℕ) : Type 0 where
-    pub after : List ℕ
-    pub changed : Bool
-    pub shortened : Shortened node n before after changed
-
-  unfoldable pub lower : (n : ℕ) (lengths : List ℕ) → Sound at_most (ShortAt node) lengths → n < length lengths → Visit n lengths
-  lower n lengths sound inside = by (length_of (node n) (length_at lengths)) refl (ltb (length_of (node n) (length_at lengths)) (length_at lengths n)) refl
-    where
-      by : (new : ℕ) → new ≡ length_of (node n) (length_at lengths) → (less : Bool)
-          → ltb (length_of (node n) (length_at lengths)) (length_at lengths n) ≡ less → Visit n lengths
-      by new is true e =
-          record {
-            after = set lengths n new;
-            changed = true;
-            shortened = visit_lowers {node = node} refl is sound inside (omega (arith, is, ltb-true (length_of (node n) (length_at lengths)) (length_at lengths n) e));
-          }
-      by new is false e = record { after = lengths; changed = false; shortened = visit-kept {node = node} (ltb-false (length_of (node n) (length_at lengths)) (length_at lengths n) e) }
-
-  module _ (count : ℕ) where
-    -- a list on which the first steps of a turn upward have been made
-    pub record Steps (before : List ℕ) (i : ℕ) : Type 0 where
-      pub after : List ℕ
-      pub changed : Bool
-      pub turning : Turning at_most (ShortAt node) (NoLonger node) count false before after i changed
-
-    unfoldable pub climb : (lengths : List ℕ) → Sound at_most (ShortAt node) lengths → (i : ℕ) → i ≤ length lengths → Steps lengths i
-    climb lengths sound zero inside = record { after = lengths; changed = false; turning = turning_none lengths }
-    climb lengths sound (suc i) inside = more (climb lengths sound i (omega arith))
-      where
-        add-one : i + 1 ≡ suc i
-        add-one = omega arith
-
-        more : Steps lengths i → Steps lengths (suc i)
-        more so_far =
-            let next = lower i so_far.after (grown_sound so_far.turning.grown sound) (omega (arith, so_far.turning.grown.long)) in
-            record {
-              after = next.after;
-              changed = so_far.changed || next.changed;
-              turning = rw add-one at (turning_more so_far.turning refl next.shortened);
-            }
-
-    module _ (beyond : (n : ℕ) → count ≤ n → node n ≡ Fail) (fresh : List ℕ) (caps : Fresh count fresh) where
-      module _ (lengths : List ℕ) (settling : Settling at_most (ShortAt node) fresh lengths) where
-        unfoldable pub turn : Steps lengths count
-        turn = climb lengths settling.sound count (omega (arith, caps.long, settling.long))
-
-        -- the least lengths by a turn, given those by what it changed
-        unfoldable pub rested : ((after : List ℕ) → Settling at_most (ShortAt node) fresh after → total after < total lengths → LeastLengths node)
-            → (changed : Bool) → turn.changed ≡ changed → LeastLengths node
-        rested more true e = more turn.after (settling_more settling turn.turning.grown) (changed_less turn.turning.grown e)
-        rested more false e =
-            record { lengths = turn.after; are = turned_lengths beyond caps settling (turning_end turn.turning (omega arith)) e }
-
-      -- turns until one changes nothing
-      unfoldable pub rest : (left : ℕ) (lengths : List ℕ) → Settling at_most (ShortAt node) fresh lengths → total lengths ≤ left → LeastLengths node
-      rest zero lengths settling enough =
-          rested lengths settling (λ after falling less. absurd (omega arith)) (turn lengths settling).changed refl
-      rest (suc left) lengths settling enough =
-          rested lengths settling (λ after falling less. rest left after falling (omega arith)) (turn lengths settling).changed refl
-
-  -- the least lengths of nodes of which none stands from a count on
-  unfoldable pub least_lengths : (count : ℕ) → ((n : ℕ) → count ≤ n → node n ≡ Fail) → LeastLengths node
-  least_lengths count beyond =
-      rest count beyond (replicate count 65536) (fresh_caps count) (total (replicate count 65536)) (replicate count 65536)
-      (settling_none (fresh_sound (fresh_caps count))) (omega arith)
+unfoldable pub least_lengths : (node : ℕ → Node) → Kinded node → (count : ℕ) → ((n : ℕ) → count ≤ n → node n ≡ Fail) → LeastLengths node
+least_lengths node kinded count beyond = lengths_of (least length_laws node kinded count beyond)
+  where
+    lengths_of : LeastTable length_laws node kinded → LeastLengths node
+    lengths_of found = record { lengths = found.table; are = least_cut found.are }

@@ -1,2 +1,3 @@
 pub mod Least
+pub mod Measures
 pub mod Falling

@@ -1,43 +1,133 @@
-// The least lengths of the runs that a book's nodes derive, cut at 65,536.
+// The least measures of the runs that a book's nodes derive, cut: one function for any measure that can be told by a
+// node's sides. The length of a run, cut at 65,536, is one.
 #![tactic(auto)]
 
-ghost use Rattle.std.specs.Prelude.{◌≡◌, true, ◌+◌, ◌*◌, ◌≤◌, ◌<◌, length};
-ghost use Rattle.book.specs.Decode.{nodes, GoodNodes};
+ghost use Rattle.std.specs.Prelude.{◌≡◌, true, ◌+◌, ◌*◌, ◌≤◌, ◌<◌, ℕ, List, length};
+ghost use Rattle.book.specs.Form.{DONE, form_of, book_of};
 ghost use Rattle.rules.specs.Growth.{Sound};
-ghost use Rattle.rules.specs.Step.{left_from, right_from};
+ghost use Rattle.rules.specs.Order.{Order};
+ghost use Rattle.rules.specs.Step.{left_from, right_from, kind_of};
 ghost use Rattle.lengths.specs.Least.{length_at, Lengths};
-ghost use Rattle.lengths.specs.Falling.{smaller, cut, length_of, at_most, ShortAt, Fresh, Shortened, AllShortened};
+ghost use Rattle.lengths.specs.Measures.{MeasureLaws, length_laws};
+ghost use Rattle.lengths.specs.Falling.{measure_at, measure_by, at_most, SomeAt, AllCap, Fresh, AllLowered, Leasts};
 
-use book::Node;
-use rules::visited;
+use book::{Book, Node};
+use rules::{downward, upward};
 
 // Where lengths are cut: a run as long, or none, has this number.
 pub const CAP: u32 = 65536;
 
-// How many numbers a table of lengths has: for 64 nodes, and for 512.
-pub const SMALL_TABLE: usize = 64;
+// A measure of runs, of which a book's nodes have the least, cut.
+pub trait Measure {
+    // Where it is cut: a run that measures as much, or none, has this number.
+    ghost CAP: { ℕ };
 
-pub const TABLE: usize = 512;
+    // What a run of one kind measures, what a run followed by another does by what the two do, and what any run does.
+    ghost token: { ℕ → ℕ };
 
-// The smaller of two numbers.
-pub fn smaller(one: usize, other: usize) -> usize
-    ensures { result ≡ smaller one other }
-{
-    if one < other { one } else { other }
+    ghost joined: { ℕ → ℕ → ℕ };
+
+    ghost size: { List ℕ → ℕ };
+
+    const CAP: u32;
+
+    fn token(kind: usize) -> usize
+        requires { kind < 64 }
+        ensures { result ≡ token kind };
+
+    fn joined(one: usize, other: usize) -> usize
+        requires { (one < 4294967296) × (other < 4294967296) }
+        ensures { result ≡ joined one other };
+
+    ghost laws: { MeasureLaws CAP token joined size };
 }
 
-// A length that is cut.
-fn cut(size: usize) -> usize
-    ensures { result ≡ cut size }
+// The measure that stands in the table for a node.
+fn measure_at(table: &[u32], n: usize) -> usize
+    requires { n < length table.now }
+    ensures { (result ≡ measure_at 0 table.now n) × (result < 4294967296) }
 {
-    smaller(size, CAP as usize)
+    table[n] as usize
 }
 
-// A 32-bit number as a number.
-fn wide(number: u32) -> usize
-    ensures { (result ≡ number) × (result < 4294967296) }
+// The measure of a node by the table's measures of its left and right, cut.
+fn measure_by<M: Measure>(node: Node, table: &[u32]) -> usize
+    requires left_in_bounds { left_from 0 node < length table.now }
+    requires right_in_bounds { right_from 0 node < length table.now }
+    requires kind_bound { kind_of node < 64 }
+    ensures { result ≡ measure_by M.CAP M.token M.joined node (measure_at M.CAP table.now) }
 {
-    number as usize
+    match node {
+        Node::Fail => M::CAP as usize,
+        Node::Empty => 0,
+        Node::Token(k) => M::token(k),
+        Node::Either(l, r) => measure_at(table, l).min(measure_at(table, r)),
+        Node::Then(l, r) => M::joined(measure_at(table, l), measure_at(table, r)).min(
+            M::CAP as usize,
+        ),
+        Node::Tagged(l, _) | Node::Ref(l) => measure_at(table, l),
+    }
+}
+
+// Lowers the measure of every node to that by its left and right, in an order, by the node of each step. Whether any
+// fell.
+fn lower_all<M: Measure, F: Fn(usize, usize) -> usize>(
+    book: &Book,
+    order: F,
+    table: &mut [u32],
+) -> bool
+    requires order { Order (F.pre order) (F.post order) (book_of book.now).count }
+    requires count_in_bounds { (book_of book.now).count ≤ length table.old }
+    requires sound { Sound (at_most M.CAP) (SomeAt M.CAP M.size (book_of book.now).node) table.old }
+    ensures form { (form_of book.now).number ≡ DONE }
+    ensures lowered { AllLowered M.CAP M.token M.joined M.size (book_of book.now).node (book_of book.now).count
+        table.old table.new result }
+{
+    let mut changed = false;
+    let count = book.count();
+    for step in 0..count {
+        let n = order(count, step);
+        let new = measure_by::<M>(book.node(n), table);
+        if new < measure_at(table, n) {
+            table[n] = new as u32;
+            changed = true;
+        }
+    }
+    changed
+}
+
+// Fills the table, all at the cap before, with the least measures: turns upward and downward by turns, until one changes
+// nothing. All but refs have lower sides, so that upward comes first; chains of refs upward settle in a turn downward.
+pub fn least<M: Measure>(book: &Book, table: &mut [u32])
+    requires { AllCap M.CAP (book_of book.now).count table.old }
+    ensures { Leasts M.CAP M.size (book_of book.now).node table.new }
+{
+    while lower_all::<M, _>(book, upward, table) && lower_all::<M, _>(book, downward, table) {}
+}
+
+// The length of a run.
+struct Length;
+
+impl Measure for Length {
+    ghost CAP = { 65536 };
+
+    ghost token = { λ kind. 1 };
+
+    ghost joined = { λ one other. one + other };
+
+    ghost size = { length };
+
+    ghost laws = { length_laws };
+
+    const CAP: u32 = CAP;
+
+    fn token(_: usize) -> usize {
+        1
+    }
+
+    fn joined(one: usize, other: usize) -> usize {
+        one + other
+    }
 }
 
 // The length that stands in the table for a node.
@@ -45,69 +135,13 @@ pub fn length_at(lengths: &[u32], n: usize) -> usize
     requires { n < length lengths.now }
     ensures { (result ≡ length_at lengths.now n) × (result < 4294967296) }
 {
-    wide(lengths[n])
+    measure_at(lengths, n)
 }
 
-// The length of a node by the table's lengths of its left and right.
-fn length_of(node: Node, lengths: &[u32]) -> usize
-    requires node_in_bounds { left_from 0 node < length lengths.now }
-    requires node_in_bounds_2 { right_from 0 node < length lengths.now }
-    ensures { result ≡ length_of node (length_at lengths.now) }
+// Fills the table, all at the cap before, with the least lengths.
+pub fn least_lengths(book: &Book, lengths: &mut [u32])
+    requires { Fresh (book_of book.now).count lengths.old }
+    ensures { Lengths (book_of book.now).node (book_of book.now).count lengths.new }
 {
-    match node {
-        Node::Fail => CAP as usize,
-        Node::Empty => 0,
-        Node::Token(_) => 1,
-        Node::Either(l, r) => smaller(length_at(lengths, l), length_at(lengths, r)),
-        Node::Then(l, r) => cut(length_at(lengths, l) + length_at(lengths, r)),
-        Node::Tagged(l, _) => length_at(lengths, l),
-        Node::Ref(l) => length_at(lengths, l),
-    }
-}
-
-// Lowers the length of a node to that by its left and right. Whether it fell.
-fn visit(book: &[u8], base: usize, count: usize, n: usize, lengths: &mut [u32]) -> bool
-    requires good_nodes { GoodNodes book.now base count 64 }
-    requires n_lt_count { n < count }
-    requires count_in_bounds { count ≤ length lengths.old }
-    requires sound { Sound at_most (ShortAt (nodes book.now base count)) lengths.old }
-    ensures { Shortened (nodes book.now base count) n lengths.old lengths.new result }
-{
-    let node = book::node_at(book, base, n);
-    let new = length_of(node, lengths);
-    if new < length_at(lengths, n) {
-        lengths[n] = new as u32;
-        true
-    } else {
-        false
-    }
-}
-
-// Visits every node, downward or upward. Whether any length fell.
-fn visit_all(book: &[u8], base: usize, count: usize, downward: bool, lengths: &mut [u32]) -> bool
-    requires good_nodes { GoodNodes book.now base count 64 }
-    requires count_in_bounds { count ≤ length lengths.old }
-    requires sound { Sound at_most (ShortAt (nodes book.now base count)) lengths.old }
-    ensures { AllShortened (nodes book.now base count) count lengths.old lengths.new result }
-{
-    let mut changed = false;
-    let mut i = 0;
-    while i < count {
-        changed = changed | visit(book, base, count, visited(count, downward, i), lengths);
-        i += 1;
-    }
-    changed
-}
-
-// Fills the table, all at the cap before, with the least lengths: turns upward and downward by turns, until one changes
-// nothing. All but refs have lower sides, so that upward comes first; chains of refs upward settle in a turn downward.
-pub fn least_lengths(book: &[u8], base: usize, count: usize, lengths: &mut [u32])
-    requires good_nodes { GoodNodes book.now base count 64 }
-    requires fresh { Fresh count lengths.old }
-    ensures { Lengths (nodes book.now base count) count lengths.new }
-{
-    let mut downward = false;
-    while visit_all(book, base, count, downward, lengths) {
-        downward = !downward;
-    }
+    least::<Length>(book, lengths);
 }

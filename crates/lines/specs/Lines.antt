@@ -1,6 +1,7 @@
 -- The lines that the listing program writes, as lists of bytes.
-use Rattle.std.specs.Prelude.{ℕ, zero, suc, ◌+◌, ◌*◌, ◌-◌, ◌/◌, ◌%◌, ◌≤◌, ◌≡◌, cond, List, [], ◌∷◌, ◌++◌, ltb, length}
+use Rattle.std.specs.Prelude.{ℕ, ◌+◌, ◌*◌, ◌-◌, ◌≤◌, ◌≡◌, cond, List, [], ◌∷◌, ◌++◌, ltb, length}
 use Rattle.std.proofs.lemmas.List.Edits.{sets}
+use Rattle.prints.specs.Digits.{digits_of, spaced}
 use Rattle.lines.specs.Text.{text}
 
 -- bytes put at a place of a buffer, and the place after them
@@ -9,28 +10,9 @@ pub record Put (before after : List ℕ) (at next : ℕ) (bytes : List ℕ) : Ty
   pub within : next ≤ length before
   pub is : after ≡ sets before at bytes
 
--- a decimal digit
-abbrev pub digit : ℕ → ℕ
-digit value = 48 + value % 10
-
--- the decimal digits of a number, by so many divisions at most
-unfoldable pub digits_by : ℕ → ℕ → List ℕ
-digits_by zero value = []
-digits_by (suc left) value =
-    let front = digits_by left (value / 10) in
-    cond (ltb value 10) [] front ++ (digit value ∷ [])
-
--- the decimal digits of a number, the first of them not 0 but for the number 0
-unfoldable pub digits_of : ℕ → List ℕ
-digits_of value = digits_by (suc value) value
-
 -- the line feed that ends each line
 abbrev pub line_feed : List ℕ
 line_feed = 10 ∷ []
-
--- a space and a number
-unfoldable pub spaced : ℕ → List ℕ
-spaced value = 32 ∷ digits_of value
 
 -- the most bytes of a space and a number of 64 bits, of a refusal's words and its line, a conflict's line, a record's
 -- line and an accepted run's lines

@@ -1,17 +1,9 @@
-// Lines of bytes: words, decimal numbers and records, put into a lent buffer.
+// The lines that the listing program writes, added to a page.
 #![tactic(auto)]
 
-ghost use Rattle.std.specs.Prelude.{◌≡◌, ◌+◌, ◌*◌, ◌≤◌, length};
+ghost use Rattle.std.specs.Prelude.{◌≤◌, length};
+ghost use Rattle.prints.specs.Pages.{Added};
 ghost use Rattle.lines.specs.Lines.{
-  Put,
-  digits_of,
-  spaced_room,
-  words_room,
-  refused_room,
-  conflict_room,
-  record_room,
-  accepted_room,
-  spaced,
   record_text,
   record_line,
   record_lines,
@@ -19,121 +11,80 @@ ghost use Rattle.lines.specs.Lines.{
   refused_line,
   conflict_line,
   accepted_lines,
+  refused_room,
+  conflict_room,
+  accepted_room,
 };
 
+use prints::Page;
 use reader::EMPTY;
 
-// Puts bytes at a place, and answers the place after them.
-pub fn put_bytes(out: &mut [u8], at: usize, bytes: &[u8]) -> usize
-    requires { at + length bytes.now ≤ length out.old }
-    ensures { Put out.old out.new at result bytes.now }
+// Adds a refusal's words: its number, its place and a third value.
+fn add_words(page: &mut Page, number: u64, place: u64, third: u64)
+    ensures { Added page.old page.new (refused_words number place third) }
 {
-    let mut i = 0;
-    while i < bytes.len() {
-        out[at + i] = bytes[i];
-        i += 1;
-    }
-    at + i
+    page.add(b"refused");
+    page.add_spaced(number);
+    page.add_spaced(place);
+    page.add_spaced(third);
 }
 
-// Puts a number's decimal digits at a place, and answers the place after them.
-pub fn put_number(out: &mut [u8], at: usize, value: u64) -> usize
-    requires { at + length (digits_of value) ≤ length out.old }
-    ensures { Put out.old out.new at result (digits_of value) }
+// Adds a refusal's line.
+pub fn add_refused(page: &mut Page, number: u64, place: u64, third: u64)
+    ensures added { Added page.old page.new (refused_line number place third) }
+    ensures short { length (refused_line number place third) ≤ refused_room }
 {
-    let digit = b'0' + (value % 10) as u8;
-    if value < 10 {
-        out[at] = digit;
-        return at + 1;
-    }
-    let next = put_number(out, at, value / 10);
-    out[next] = digit;
-    next + 1
+    add_words(page, number, place, third);
+    page.add(b"\n");
 }
 
-// Puts a space and a number at a place, and answers the place after them.
-fn put_spaced(out: &mut [u8], at: usize, value: u64) -> usize
-    requires { at + spaced_room ≤ length out.old }
-    ensures { Put out.old out.new at result (spaced value) × (result ≤ at + spaced_room) }
+// Adds a conflict's line, with its set of kinds and its flag.
+pub fn add_conflict(page: &mut Page, number: u64, place: u64, kinds: u64, flag: u64)
+    ensures added { Added page.old page.new (conflict_line number place kinds flag) }
+    ensures short { length (conflict_line number place kinds flag) ≤ conflict_room }
 {
-    let next = put_bytes(out, at, b" ");
-    put_number(out, next, value)
+    add_words(page, number, place, kinds);
+    page.add_spaced(flag);
+    page.add(b"\n");
 }
 
-// Puts a refusal's words, and answers the place after them.
-fn put_words(out: &mut [u8], number: u64, place: u64, third: u64) -> usize
-    requires { words_room ≤ length out.old }
-    ensures { Put out.old out.new 0 result (refused_words number place third) × (result ≤ words_room) }
-{
-    let word = put_bytes(out, 0, b"refused");
-    let first = put_spaced(out, word, number);
-    let second = put_spaced(out, first, place);
-    put_spaced(out, second, third)
-}
-
-// Puts a refusal's line, and answers its length.
-pub fn put_refused(out: &mut [u8], number: u64, place: u64, third: u64) -> usize
-    requires { refused_room ≤ length out.old }
-    ensures { Put out.old out.new 0 result (refused_line number place third) }
-{
-    let last = put_words(out, number, place, third);
-    put_bytes(out, last, b"\n")
-}
-
-// Puts a conflict's line, with its set of kinds and its flag, and answers its length.
-pub fn put_conflict(out: &mut [u8], number: u64, place: u64, kinds: u64, flag: u64) -> usize
-    requires { conflict_room ≤ length out.old }
-    ensures { Put out.old out.new 0 result (conflict_line number place kinds flag) }
-{
-    let words = put_words(out, number, place, kinds);
-    let last = put_spaced(out, words, flag);
-    put_bytes(out, last, b"\n")
-}
-
-// Puts a record's node number at a place, an empty record's with `-` before it.
-fn put_node(out: &mut [u8], at: usize, entry: u16) -> usize
-    requires { at + 6 ≤ length out.old }
-    ensures { Put out.old out.new at result (record_text entry) × (result ≤ at + 6) }
+// Adds a record's node number, an empty record's with `-` before it.
+fn add_node(page: &mut Page, entry: u16)
+    ensures { Added page.old page.new (record_text entry) }
 {
     let node = entry as usize;
     if node < EMPTY {
-        return put_number(out, at, node as u64);
+        return page.add_number(node as u64);
     }
-    let next = put_bytes(out, at, b"-");
-    put_number(out, next, (node - EMPTY) as u64)
+    page.add(b"-");
+    page.add_number((node - EMPTY) as u64);
 }
 
-// Puts a record's line at a place, and answers the place after it.
-fn put_record(out: &mut [u8], at: usize, entry: u16) -> usize
-    requires { at + record_room ≤ length out.old }
-    ensures { Put out.old out.new at result (record_line entry) × (result ≤ at + record_room) }
+// Adds a record's line.
+fn add_record(page: &mut Page, entry: u16)
+    ensures { Added page.old page.new (record_line entry) }
 {
-    let next = put_node(out, at, entry);
-    put_bytes(out, next, b"\n")
+    add_node(page, entry);
+    page.add(b"\n");
 }
 
-// Puts one record a line from a place on, and answers the place after them.
-fn put_records(out: &mut [u8], at: usize, tree: &[u16]) -> usize
-    requires { at + record_room * length tree.now ≤ length out.old }
-    ensures { Put out.old out.new at result (record_lines tree.now) }
+// Adds one record a line. It goes over the records themselves, so `Page::add_each`, by number, is no plainer.
+fn add_records(page: &mut Page, tree: &[u16])
+    ensures { Added page.old page.new (record_lines tree.now) }
 {
-    let mut next = at;
-    let mut i = 0;
-    while i < tree.len() {
-        next = put_record(out, next, tree[i]);
-        i += 1;
+    for entry in tree {
+        add_record(page, *entry);
     }
-    next
 }
 
-// Puts an accepted run's lines, and answers their length.
-pub fn put_accepted(out: &mut [u8], events: u64, records: u64, tree: &[u16]) -> usize
-    requires { accepted_room (length tree.now) ≤ length out.old }
-    ensures { Put out.old out.new 0 result (accepted_lines events records tree.now) }
+// Adds an accepted run's lines.
+pub fn add_accepted(page: &mut Page, events: u64, records: u64, tree: &[u16])
+    ensures added { Added page.old page.new (accepted_lines events records tree.now) }
+    ensures short { length (accepted_lines events records tree.now) ≤ accepted_room (length tree.now) }
 {
-    let word = put_bytes(out, 0, b"accept");
-    let first = put_spaced(out, word, events);
-    let second = put_spaced(out, first, records);
-    let line = put_bytes(out, second, b"\n");
-    put_records(out, line, tree)
+    page.add(b"accept");
+    page.add_spaced(events);
+    page.add_spaced(records);
+    page.add(b"\n");
+    add_records(page, tree);
 }

@@ -9,25 +9,21 @@ use Rattle.book.specs.Form.{DONE}
 use Rattle.reader.specs.declared.Reading.{Reading}
 use Rattle.reader.specs.Reads.{Reads, Outcome, outcome, read_of}
 use Rattle.reader.proofs.Answers.{read_told, records_fit}
-use Rattle.lines.specs.Lines.{Put, accepted_lines, refused_line}
+use Rattle.lines.specs.Lines.{accepted_lines, refused_line}
 use Rattle.listed.specs.Listing.{slot_room, tree_room, third_of, reading_lines}
 
-module _ {out end : List ℕ} {last : ℕ} (events : ℕ) (answer : Reading) (tree : List ℕ) where
+module _ (events : ℕ) (answer : Reading) (tree : List ℕ) where
   -- the lines of a run that was accepted
-  pub put_if_accepted : answer.number ≡ DONE
-      → Put out end 0 last (accepted_lines events answer.records (take answer.records tree))
-      → Put out end 0 last (reading_lines events (outcome answer tree))
+  pub lines_accepted : answer.number ≡ DONE
+      → reading_lines events (outcome answer tree) ≡ accepted_lines events answer.records (take answer.records tree)
   unfolding reading_lines
-  put_if_accepted done p = rw (eq-eqb answer.number DONE done) p
+  lines_accepted done = rw (eq-eqb answer.number DONE done)
 
   -- the line of a run that was refused
-  pub put_if_refused : {third : ℕ}
-      → answer.number ≢ DONE
-      → third ≡ third_of answer
-      → Put out end 0 last (refused_line answer.number answer.place third)
-      → Put out end 0 last (reading_lines events (outcome answer tree))
+  pub lines_refused : answer.number ≢ DONE
+      → reading_lines events (outcome answer tree) ≡ refused_line answer.number answer.place (third_of answer)
   unfolding reading_lines
-  put_if_refused refused is p = rw (ne_eqb answer.number DONE refused) (rw is at p)
+  lines_refused refused = rw (ne_eqb answer.number DONE refused)
 
 module _ (plan run tree : List ℕ) {held held_after tree-after : List ℕ} {answer : Reading}
     (read : Reads plan run held tree answer held_after tree-after) where

@@ -4,6 +4,7 @@ use native.Mathlib.Omega.{arith}
 use mathlib.Core.Path.{◌≡◌, refl, ap, ◌∙◌}
 use mathlib.Core.Bool.{Bool, true, false, cond}
 use mathlib.Core.List.{List}
+use mathlib.Core.Logic.{◌≢◌}
 use lib.ListN.{length, take, drop, length-drop}
 use lib.Seq.{take_all}
 use borrow.Author.Tests.{ltb-false}
@@ -13,24 +14,10 @@ use Rattle.compiler.specs.declared.Compiled.{Compiled}
 use Rattle.compiler.specs.Compiles.{Compiles}
 use Rattle.compiler.proofs.Promise.{passed, passed_size}
 use Rattle.reader.specs.Reads.{read_of}
-use Rattle.listed.specs.declared.Shape.TheVariants.{TooLong, TooShort, Whole}
 use Rattle.lines.specs.Lines.{Put}
-use Rattle.listed.specs.Listing.{
-  longest_book,
-  event_room,
-  plan_room,
-  slot_room,
-  tree_room,
-  book_size,
-  book_in,
-  run_in,
-  shape_of,
-  reading_lines,
-  Lists,
-  run_read,
-  Listed,
-}
-use Rattle.lines.proofs.Laws.{put-length, put-taken, put_rest}
+use Rattle.listed.specs.Listing.{TooLong, TooShort, Whole, longest_book, event_room, plan_room, out_room, AddedListing, slot_room, tree_room, book_size, book_in, run_in, shape_of, reading_lines, Lists, compiled_line, Parted, book-refused, run_read, Listed}
+use Rattle.prints.specs.declared.Page.{Page}
+use Rattle.lines.proofs.Laws.{adds_whole, put-length, put-taken, put_rest}
 
 -- an input that is whole has a length, its book and a run within the room
 pub record Full (input : List ℕ) : Type 0 where
@@ -77,44 +64,43 @@ module _ (input : List ℕ) (whole : shape_of input ≡ Whole) where
         events = ltb-false _ _ fail.3;
       }
 
-  module _ {size : ℕ} (is : size ≡ u16_at input 0) where
-    -- the parts of a whole input that are compiled and read
-    pub end_within : 2 + size ≤ length input
-    unfolding book_size
-    end_within = omega (arith, whole_full.book, is)
+-- an output over which a page was written from its start on
+pub page_listed : {input out end : List ℕ} {last : ℕ} {before after : Page}
+    → before.out.now ≡ out
+    → before.at ≡ 0
+    → end ≡ after.out.now
+    → last ≡ after.at
+    → out_room ≤ length out
+    → AddedListing input before after
+    → Listed input out end last
+page_listed {before = before} was blank is long room a =
+    put_listed (rw (is, long, ← was) (adds_whole (omega (arith, a.short, ap (λ (l : List ℕ). length l) was)) (rw blank at a.added.adds))) a.lists
 
-    pub book-part : take (2 + size - 2) (drop 2 input) ≡ book_in input
-    unfolding book_in book_size
-    book-part =
-        let same : 2 + size - 2 ≡ u16_at input 0 = omega (arith, is) in
-        rw same
+-- of a whole input, its parts, and an input in which those stand
+module _ (input : List ℕ) {size : ℕ} (is : size ≡ u16_at input 0) where
+  pub input_parted : shape_of input ≡ Whole
+      → Parted input (take (2 + size - 2) (drop 2 input)) (take (length input - (2 + size)) (drop (2 + size) input))
+  unfolding book_in run_in book_size
+  input_parted whole =
+      let same : 2 + size - 2 ≡ u16_at input 0 = omega (arith, is) in
+      record {
+        whole = whole;
+        book_is = rw same refl;
+        run_is =
+            take_all (length input - (2 + size)) (drop (2 + size) input) (rw length-drop (omega arith))
+            ∙ ap (λ (n : ℕ). drop (2 + n) input) is;
+      }
 
-    pub run-part : take (length input - (2 + size)) (drop (2 + size) input) ≡ run_in input
-    unfolding run_in book_size
-    run-part =
-        take_all (length input - (2 + size)) (drop (2 + size) input) (rw length-drop (omega arith))
-        ∙ ap (λ (n : ℕ). drop (2 + n) input) is
+-- what compiling the book of a whole input comes to, where it is refused, and where its run is read
+module _ {input book run plan : List ℕ} {room : ℕ} {answer : Compiled} (p : Parted input book run) (held : room ≡ plan_room)
+    (made : Compiles book room answer plan) where
+  pub refused_listed : answer.number ≢ DONE → Lists input (compiled_line answer)
+  refused_listed bad = book-refused p.whole (rw (p.book_is, held) at made) bad
 
-    -- what compiling that part of the input says of its book
-    pub book_compiled : {room : ℕ} {answer : Compiled} {plan : List ℕ}
-        → room ≡ plan_room
-        → Compiles (take (2 + size - 2) (drop 2 input)) room answer plan
-        → Compiles (book_in input) plan_room answer plan
-    book_compiled held made = rw (book-part, held) at made
+  pub run_listed : answer.number ≡ DONE
+      → Lists input (reading_lines (length run) (read_of (take answer.size plan) run slot_room tree_room))
+  run_listed good = rw p.run_is (run_read p.whole (rw (p.book_is, held) at made) good)
 
-    -- what reading the rest of the input comes to
-    pub run_listed : {out end plan : List ℕ} {last : ℕ} {answer : Compiled}
-        → Compiles (book_in input) plan_room answer plan
-        → answer.number ≡ DONE
-        → Put out end 0 last
-        (reading_lines (length (take (length input - (2 + size)) (drop (2 + size) input)))
-        (read_of (take answer.size plan) (take (length input - (2 + size)) (drop (2 + size) input)) slot_room tree_room))
-        → Listed input out end last
-    run_listed made good p = put_listed (rw run-part at p) (run_read whole made good)
-
--- a plan is within its room
-pub compiled_within : {bytes : List ℕ} {room : ℕ} {answer : Compiled} {plan : List ℕ}
-    → Compiles bytes room answer plan
-    → answer.number ≡ DONE
-    → answer.size ≤ room
-compiled_within made is = rw (passed_size made is) (passed made is).fits
+  -- a plan is within its room
+  pub compiled_within : answer.number ≡ DONE → answer.size ≤ room
+  compiled_within is = rw (passed_size made is) (passed made is).fits

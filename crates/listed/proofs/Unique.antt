@@ -19,9 +19,11 @@ use Rattle.compiler.proofs.Unique.{compiles_unique}
 use Rattle.compiler.proofs.Some.{compiles_some}
 use Rattle.compiler.proofs.Promise.{room_short}
 use Rattle.reader.specs.Reads.{read_of}
-use Rattle.listed.specs.declared.Shape.{Shape}
-use Rattle.listed.specs.declared.Shape.TheVariants.{TooLong, TooShort, Whole}
 use Rattle.listed.specs.Listing.{
+  Shape,
+  TooLong,
+  TooShort,
+  Whole,
   longest_book,
   event_room,
   input_room,

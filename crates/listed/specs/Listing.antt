@@ -8,9 +8,11 @@ use Rattle.compiler.specs.Compiles.{Compiles}
 use Rattle.reader.specs.declared.Reading.{Reading}
 use Rattle.reader.specs.Numbers.{NO-ROOM}
 use Rattle.reader.specs.Reads.{Outcome, read_of}
-use Rattle.listed.specs.declared.Shape.{Shape}
-use Rattle.listed.specs.declared.Shape.TheVariants.{TooLong, TooShort, Whole}
-use Rattle.lines.specs.Lines.{refused_room, accepted_room, input_too_long, input_too_short}
+use Rattle.prints.specs.declared.Page.{Page}
+use Rattle.prints.specs.Pages.{Added}
+use Rattle.listed.specs.declared.LengthError.{LengthError}
+use Rattle.listed.specs.declared.LengthError.TheVariants.{TooLong as LongError, TooShort as ShortError}
+use Rattle.lines.specs.Lines.{accepted_room, input_too_long, input_too_short}
 use Rattle.lines.specs.Lines.{refused_line, conflict_line, accepted_lines}
 
 -- the longest book, and the room for events
@@ -47,6 +49,17 @@ book_in input = take (book_size input) (drop 2 input)
 
 unfoldable pub run_in : List ℕ → List ℕ
 run_in input = drop (2 + book_size input) input
+
+-- what an input can be: too long, too short or whole
+pub data Shape : Type 0 where
+  TooLong : Shape
+  TooShort : Shape
+  Whole : Shape
+
+-- what stands against an input, as its shape
+abbrev pub shape_by : LengthError → Shape
+shape_by LongError = TooLong
+shape_by ShortError = TooShort
 
 -- whether an input is too long, too short or whole
 unfoldable pub shape_of : List ℕ → Shape
@@ -94,22 +107,24 @@ pub data Lists (input : List ℕ) : List ℕ → Type 0 where
       → Lists input
       (reading_lines (length (run_in input)) (read_of (take answer.size plan) (run_in input) slot_room tree_room))
 
--- an output with room for the lines of a run that was read, and, where it was accepted, a tree with all its records
-pub record Room (out : List ℕ) (answer : Reading) (tree : List ℕ) : Type 0 where
-  pub line : refused_room ≤ length out
-  pub lines : accepted_room (length tree) ≤ length out
-  pub records : answer.number ≡ DONE → answer.records ≤ length tree
+-- an input that is whole, taken apart: its book and its run
+pub record Parted (input book run : List ℕ) : Type 0 where
+  pub whole : shape_of input ≡ Whole
+  pub book_is : book ≡ book_in input
+  pub run_is : run ≡ run_in input
 
--- the buffers lent to read a run, each of its size, and an output that always suffices
-pub record RunLent (out held tree : List ℕ) : Type 0 where
-  pub output : out_room ≤ length out
+-- the buffers lent to compile a book and read a run, each of its size
+pub record Lent (plan held tree : List ℕ) : Type 0 where
+  pub cells : length plan ≡ plan_room
   pub slots : length held ≡ slot_room
   pub records : length tree ≡ tree_room
 
--- those lent to compile a book and read a run
-pub record Lent (out plan held tree : List ℕ) : Type 0 where
-  pub cells : length plan ≡ plan_room
-  pub others : RunLent out held tree
+-- what the program writes for an input is added to a page, and has room in an output that always suffices
+pub record AddedListing (input : List ℕ) (before after : Page) : Type 0 where
+  pub bytes : List ℕ
+  pub lists : Lists input bytes
+  pub short : length bytes ≤ out_room
+  pub added : Added before after bytes
 
 -- the front of an output, so many bytes, is what the program writes for an input, and the rest is as it was
 pub record Listed (input before after : List ℕ) (count : ℕ) : Type 0 where

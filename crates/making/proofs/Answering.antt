@@ -1,26 +1,24 @@
 -- What a text comes to, by what is settled of it; that there is such an answer, and one only.
-use mathlib.Core.Path.{◌≡◌, refl, sym, ap, ◌∙◌}
-use mathlib.Core.Bool.{Bool, true, false, cond}
-use mathlib.Core.Logic.{◌≢◌}
+use mathlib.Core.Path.{◌≡◌, refl, sym, ◌∙◌}
+use mathlib.Core.Bool.{Bool, true, false}
 use mathlib.Core.List.{List, [], ◌∷◌}
-use Prim.Native.Nat.{ℕ, zero, suc, ◌≤◌, ◌<◌}
+use Prim.Native.Nat.{ℕ}
 use native.Mathlib.Omega.{arith}
 use borrow.Author.Tests.{ltb-true, ltb-false, eq-eqb, ne_eqb}
-use lib.Dec.{ltb, eqb}
+use lib.Dec.{ltb}
 use lib.ListN.{length}
-use Rattle.words.specs.Beginnings.{Parts, Lacks}
 use Rattle.book.specs.Form.{DONE}
-use Rattle.sheets.specs.Grammar.{Rule, Sheet, IsSheet}
+use Rattle.sheets.specs.Grammar.{Rule, Sheet}
 use Rattle.sheets.specs.Nodes.{kind_names}
-use Rattle.sheets.specs.Made.{SHEET, TWICE, BIG, KINDLESS, repeats, too_big}
+use Rattle.sheets.specs.Made.{SHEET}
 use Rattle.syntax.specs.Machine.{Outcome, sheet, wrong, read_sheet}
 use Rattle.syntax.proofs.ReadSheets.{read_is_a_sheet}
 use Rattle.syntax.proofs.SheetsRead.{sheet_is_read}
 use Rattle.syntax.proofs.WrongPlaces.{wrong_parts, wrong_lacks}
-use Rattle.syntax.proofs.Outcomes.{sheet_once, parts_wrong, lacks_wrong}
+use Rattle.syntax.proofs.Outcomes.{parts_wrong, lacks_wrong}
 use Rattle.making.specs.Makes.{judged_by, Answers, wrong_at, more_due, judged}
-use Rattle.making.specs.Settled.{Refused, twice, big, kindless, Pass, PutDown, SettledAs, no_sheet, refused, passed}
-use Rattle.making.specs.declared.Settled.{Settled}
+use Rattle.making.specs.Settled.{written_by, Refused, twice, big, kindless, Pass, RefusedAs, no_sheet, refused}
+use Rattle.making.specs.declared.Refusal.{Refusal}
 
 module _ {A : Type 0} (refuse : ℕ → ℕ → A) where
   -- rules that are refused, and rules that pass
@@ -77,12 +75,11 @@ module _ {A : Type 0} (refuse : ℕ → ℕ → A) where
     pub one_answer : {a b : A} → Answers text refuse made a → Answers text refuse made b → a ≡ b
     one_answer x y = answer_is x ∙ sym (answer_is y)
 
-    -- what is settled as refused is answered so
-    pub settled-refused : {s : Settled} {nodes rows kinds : List ℕ} → SettledAs text s nodes rows kinds → s.number ≢ DONE
-        → Answers text refuse made (refuse s.number s.place)
-    settled-refused (no_sheet is wrong-is) other = rw is (wrong_answers wrong-is)
-    settled-refused (refused {first} {further} read why) other = rw (← refused_so (made first further) why) (judged read)
-    settled-refused (passed read is pass put) other = absurd (other is)
+    -- what is refused is answered so
+    pub refused_answers : {refusal : Refusal} → RefusedAs text refusal
+        → Answers text refuse made (refuse (written_by refusal).number (written_by refusal).place)
+    refused_answers (no_sheet wrong-is) = wrong_answers wrong-is
+    refused_answers (refused {first} {further} read why) = rw (← refused_so (made first further) why) (judged read)
 
     -- what passes is answered by what is made of it
     pub passed_answers : {first : Rule} {further : List Rule} → Sheet text first further → Pass (first ∷ further)
@@ -94,18 +91,3 @@ pub never_done : {rules : List Rule} {number place : ℕ} → Refused rules numb
 never_done (twice again) is = omega arith
 never_done (big once many) is = omega arith
 never_done (kindless once few none) is = omega arith
-
--- what is settled as done has passed, and is put down
-pub record Passed (text : List ℕ) (s : Settled) (nodes rows kinds : List ℕ) : Type 0 where
-  pub first : Rule
-  pub further : List Rule
-  pub read : Sheet text first further
-  pub pass : Pass (first ∷ further)
-  pub put : PutDown text (first ∷ further) s nodes rows kinds
-
-pub settled_done : {text nodes rows kinds : List ℕ} {s : Settled} → SettledAs text s nodes rows kinds → s.number ≡ DONE
-    → Passed text s nodes rows kinds
-settled_done (no_sheet is wrong-is) done = absurd (omega arith)
-settled_done (refused read why) done = absurd (never_done why done)
-settled_done (passed {first} {further} read is pass put) done =
-    record { first = first; further = further; read = read; pass = pass; put = put }

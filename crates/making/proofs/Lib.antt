@@ -1,8 +1,9 @@
-pub mod Naming
+pub mod Numbers
 pub mod Noding
+pub mod Naming
 pub mod Whole
-pub mod Settling
-pub mod Passing
 pub mod Answering
+pub mod Passing
+pub mod Settling
 pub mod Finishing
 pub mod Promise

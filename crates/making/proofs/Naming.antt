@@ -1,104 +1,105 @@
 -- Names written one behind the other, and their size.
 use mathlib.Core.Path.{◌≡◌, refl, sym, ap, ◌∙◌}
-use mathlib.Core.List.{List, [], ◌∷◌, ◌++◌}
-use Prim.Native.Nat.{ℕ, zero, suc, ◌+◌, ◌*◌, ◌-◌, ◌≤◌, ◌<◌}
-use native.Mathlib.Nat.{one-mul}
-use native.Mathlib.Numerals.{add-one}
+use mathlib.Core.List.{List, [], ◌∷◌, ◌++◌, append_assoc, append-nil}
+use Prim.Native.Nat.{ℕ, zero, suc, ◌+◌, ◌*◌, ◌≤◌, ◌<◌}
 use native.Mathlib.Omega.{arith}
-use lib.ListN.{length, get_or, set, length-set, length-append}
+use lib.ListN.{length, get_or, take, drop, take-append-drop, length-append}
 use lib.Seq.{sets, length-sets}
-use Rattle.words.specs.Lists.{part_at}
+use Rattle.std.specs.Prelude.{map}
+use Rattle.std.proofs.lemmas.List.{map-append, map_more, take_all}
 use Rattle.words.proofs.Stored.{sets_then}
 use Rattle.names.specs.Names.{names_bytes}
-use Rattle.resolving.specs.Letters.{word_at}
-use Rattle.resolving.specs.Words.{words_at, kinds_at}
-use Rattle.resolving.proofs.Letters.{letters_part, letters_within}
-use Rattle.making.specs.Bytes.{name_bytes, kind_bytes, NameAt, ShortNames}
+use Rattle.making.specs.Bytes.{largest}
 
--- a name: its size is stored, then its letters are copied
-module _ {text : List ℕ} {place : ℕ} (name : NameAt text place) where
-  pub name_within : {size : ℕ} → size ≡ length (word_at text place) → place + size ≤ length text
-  name_within is = rw is (letters_within text place name.some_letter)
+names_append : (xs ys : List (List ℕ)) → names_bytes (xs ++ ys) ≡ names_bytes xs ++ names_bytes ys
+unfolding names_bytes
+names_append [] ys = refl
+names_append (x ∷ xs) ys =
+    rw (names_append xs ys) (ap (λ (l : List ℕ). length x ∷ l) (sym (append_assoc x (names_bytes xs) (names_bytes ys))))
 
-  pub name_stored : (before : List ℕ) (at : ℕ) {one after : List ℕ} {size : ℕ} → size ≡ length (word_at text place)
-      → one ≡ set before at size
-      → after ≡ sets one (at + 1) (part_at text place size) → after ≡ sets before at (name_bytes (word_at text place))
-  name_stored before at is stored copied = copied ∙ rw (stored, is, letters_part text place, add-one)
+module _ (word : ℕ → List ℕ) (kinds : List ℕ) where
+  -- the names of the kinds before a number
+  abbrev pub done : ℕ → List ℕ
+  done k = names_bytes (map word (take k kinds))
 
-  pub name_long : (before : List ℕ) (at : ℕ) {after : List ℕ} {size : ℕ} → size ≡ length (word_at text place)
-      → after ≡ sets (set before at size) (at + 1) (part_at text place size) → length after ≡ length before
-  name_long before at is copied =
-      ap length (name_stored before at is refl copied) ∙ length-sets before at (name_bytes (word_at text place))
+  abbrev pub whole : List ℕ
+  whole = names_bytes (map word kinds)
 
--- the names of the kinds from a number on
-module _ (text kinds : List ℕ) (many : ℕ) where
-  abbrev left : ℕ → List ℕ
-  left k = names_bytes (words_at text kinds 1 (many - k) k)
+  module _ {k : ℕ} (below : k < length kinds) (d : ℕ) where
+    done_more : done (k + 1) ≡ done k ++ (length (word (get_or kinds k d)) ∷ word (get_or kinds k d))
+    unfolding names_bytes
+    done_more =
+        ap names_bytes (map_more word kinds k d below) ∙ names_append (map word (take k kinds)) (word (get_or kinds k d) ∷ [])
+        ∙ ap (λ (l : List ℕ). done k ++ (length (word (get_or kinds k d)) ∷ l)) (append-nil (word (get_or kinds k d)))
 
-  abbrev name : ℕ → List ℕ
-  name k = word_at text (get_or kinds k 0)
+    done_size : length (done (k + 1)) ≡ length (done k) + 1 + length (word (get_or kinds k d))
+    done_size = ap length done_more ∙ length-append (done k) _ ∙ omega arith
 
-  left_more : {k : ℕ} → k < many → left k ≡ name_bytes (name k) ++ left (k + 1)
-  unfolding names_bytes words_at
-  left_more {k} below =
-      let one_left : many - k ≡ suc (many - suc k) = omega arith in
-      rw (one_left, one-mul, add-one)
+  done_within : (k : ℕ) → length (done k) ≤ length whole
+  done_within k =
+      let all : whole ≡ done k ++ names_bytes (map word (drop k kinds)) =
+      ap (λ l. names_bytes (map word l)) (sym (take-append-drop k kinds))
+      ∙ ap names_bytes (map-append word (take k kinds) (drop k kinds))
+      ∙ names_append (map word (take k kinds)) (map word (drop k kinds)) in
+      omega (arith, ap length all, length-append (done k) (names_bytes (map word (drop k kinds))))
 
-  left_none : {k : ℕ} → many ≤ k → left k ≡ []
-  unfolding names_bytes words_at
-  left_none {k} past = let none : many - k ≡ 0 = omega arith in rw none
+  done_all : {k : ℕ} → length kinds ≤ k → done k ≡ whole
+  done_all {k} past = ap (λ l. names_bytes (map word l)) (take_all k kinds past)
 
-  left-all : left 0 ≡ kind_bytes text kinds many
-  left-all = let all : many - 0 ≡ many = omega arith in rw all
-
-  length-left : {k : ℕ} → k < many → length (left k) ≡ 1 + length (name k) + length (left (k + 1))
-  length-left {k} below = ap length (left_more below) ∙ length-append (name_bytes (name k)) (left (k + 1)) ∙ omega arith
+  -- each name is short where the longest is
+  pub short_at : (d : ℕ) {k : ℕ} → k < length kinds → largest (map length (map word kinds)) ≤ 16 → length (word (get_or kinds k d)) ≤ 16
+  unfolding largest
+  short_at d {k} below short = go kinds k below short
+    where
+      go : (kinds : List ℕ) (k : ℕ) → k < length kinds → largest (map length (map word kinds)) ≤ 16 → length (word (get_or kinds k d)) ≤ 16
+      go [] k below short = absurd (omega arith)
+      go (kind ∷ kinds) zero below short = omega arith
+      go (kind ∷ kinds) (suc k) below short = go kinds k (omega arith) (omega arith)
 
   -- the names before a number are written, up to a place
   pub record Naming (before after : List ℕ) (from at k : ℕ) : Type 0 where
-    pub within : k ≤ many
-    pub rest : sets after at (left k) ≡ sets before from (kind_bytes text kinds many)
-    pub fits : at + length (left k) ≤ length before
+    pub place : at ≡ from + length (done k)
+    pub put : after ≡ sets before from (done k)
     pub long : length after ≡ length before
 
-  pub naming_none : {l : List ℕ} {from : ℕ} → from + length (kind_bytes text kinds many) ≤ length l → Naming l l from from 0
-  naming_none {l} {from} fits =
-      record { within = omega arith; rest = ap (sets l from) left-all; fits = omega (arith, fits, ap length left-all); long = refl }
+  pub naming_none : (l : List ℕ) (from : ℕ) → Naming l l from from 0
+  unfolding names_bytes
+  naming_none l from = record { place = omega arith; put = refl; long = refl }
 
-  module _ {before after : List ℕ} {from at k : ℕ} (n : Naming before after from at k) where
-    pub name_fits : k < many → at + 1 + length (name k) ≤ length after
-    name_fits below = omega (arith, n.fits, n.long, length-left below)
+  module _ {before after : List ℕ} {from at k : ℕ} (n : Naming before after from at k) (d : ℕ) (below : k < length kinds) where
+    pub name_fits : from + length whole ≤ length before → at + 1 + length (word (get_or kinds k d)) ≤ length after
+    name_fits fits = omega (arith, fits, n.place, n.long, done_size below d, done_within (k + 1))
 
-    pub naming_more : {next : List ℕ} {behind : ℕ} → k < many → next ≡ sets after at (name_bytes (name k))
-        → behind ≡ at + 1 + length (name k)
-        → Naming before next from behind (k + 1)
-    naming_more {next} {behind} below is place =
+    pub naming_more : {next name : List ℕ} → name ≡ word (get_or kinds k d) → next ≡ sets after at (length name ∷ name)
+        → Naming before next from (at + (1 + length name)) (k + 1)
+    naming_more {next} {name} is stored =
         record {
-          within = omega arith;
-          rest =
-              rw is
-              (sets_then after at (name_bytes (name k)) behind (left (k + 1)) (omega arith)
-              ∙ ap (sets after at) (sym (left_more below)) ∙ n.rest);
-          fits = omega (arith, n.fits, length-left below);
-          long = ap length is ∙ length-sets after at (name_bytes (name k)) ∙ n.long;
+          place = omega (arith, n.place, done_size below d, ap length is);
+          put =
+              stored
+              ∙ ap (λ (l : List ℕ). sets l at (length name ∷ name)) n.put
+              ∙ sets_then before from (done k) at (length name ∷ name) n.place
+              ∙ ap (sets before from) (ap (λ (l : List ℕ). done k ++ (length l ∷ l)) is ∙ sym (done_more below d));
+          long = ap length stored ∙ length-sets after at (length name ∷ name) ∙ n.long;
         }
 
-    pub naming-all : many ≤ k → after ≡ sets before from (kind_bytes text kinds many)
-    naming-all past = ap (sets after at) {x = []} {y = left k} (sym (left_none past)) ∙ n.rest
+  pub naming_all : {before after : List ℕ} {from at k : ℕ} → Naming before after from at k → length kinds ≤ k
+      → after ≡ sets before from whole
+  naming_all {before} {from = from} n past = n.put ∙ ap (sets before from) (done_all past)
 
   -- the sizes of the names before a number are added
   pub record Measuring (size k : ℕ) : Type 0 where
-    pub within : k ≤ many
-    pub rest : size + length (left k) ≡ length (kind_bytes text kinds many)
+    pub is : size ≡ length (done k)
     pub few : size ≤ 17 * k
 
   pub measuring_none : Measuring 0 0
-  measuring_none = record { within = omega arith; rest = omega (arith, ap length left-all); few = omega arith }
+  unfolding names_bytes
+  measuring_none = record { is = refl; few = omega arith }
 
-  module _ {size k : ℕ} (m : Measuring size k) where
-    pub measuring_more : {more : ℕ} → k < many → more ≡ length (name k) → length (name k) ≤ 16 → Measuring (size + (1 + more)) (k + 1)
-    measuring_more below is short =
-        record { within = omega arith; rest = omega (arith, m.rest, length-left below); few = omega (arith, m.few) }
+  pub measuring_more : {size k : ℕ} → Measuring size k → (d : ℕ) → k < length kinds → {name : List ℕ} → name ≡ word (get_or kinds k d)
+      → length (word (get_or kinds k d)) ≤ 16 → Measuring (size + (1 + length name)) (k + 1)
+  measuring_more m d below is short =
+      record { is = omega (arith, m.is, done_size below d, ap length is); few = omega (arith, m.few, ap length is) }
 
-    pub measuring_all : many ≤ k → size ≡ length (kind_bytes text kinds many)
-    measuring_all past = omega (arith, m.rest, ap length (left_none past))
+  pub measuring_all : {size k : ℕ} → Measuring size k → length kinds ≤ k → size ≡ length whole
+  measuring_all m past = m.is ∙ ap length (done_all past)

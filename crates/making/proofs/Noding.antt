@@ -1,15 +1,16 @@
 -- Nodes written one behind the other.
 use mathlib.Core.Path.{◌≡◌, refl, sym, ap, ◌∙◌}
 use mathlib.Core.List.{List, [], ◌∷◌, ◌++◌}
-use Prim.Native.Nat.{ℕ, zero, suc, ◌+◌, ◌*◌, ◌-◌, ◌≤◌, ◌<◌}
-use native.Mathlib.Numerals.{add-one}
+use Prim.Native.Nat.{ℕ, ◌+◌, ◌*◌, ◌≤◌, ◌<◌}
 use native.Mathlib.Omega.{arith}
-use lib.ListN.{length}
-use lib.Seq.{sets, length-sets}
-use Rattle.words.specs.Lists.{lists_from}
-use Rattle.words.specs.Words.{with_u16, word_bytes, Below, below_none, below_more}
-use Rattle.words.proofs.Bytes.{words_append}
+use lib.ListN.{length, get_or, take}
+use lib.Seq.{sets, length-sets, length-take-le}
+use Rattle.std.specs.List.{flat_map}
+use Rattle.std.proofs.lemmas.List.{take_all}
+use Rattle.words.specs.Words.{with_u16, word_bytes}
+use Rattle.words.proofs.Bytes.{length_words, words_append}
 use Rattle.words.proofs.Stored.{sets_then, sets_word}
+use Rattle.making.proofs.Numbers.{length_threes, one_more}
 
 -- three numbers stored one behind the other
 pub three_stored : (l : List ℕ) {one two three : List ℕ} (at a b c : ℕ) → one ≡ with_u16 l at a → two ≡ with_u16 one (at + 2) b
@@ -21,52 +22,34 @@ three_stored l at a b c first second third =
     (ap (λ (m : List ℕ). sets m (at + 4) (word_bytes (c ∷ []))) (sets_then l at (word_bytes (a ∷ [])) (at + 2) (word_bytes (b ∷ [])) refl)
     ∙ sets_then l at (word_bytes (a ∷ b ∷ [])) (at + 4) (word_bytes (c ∷ [])) refl)
 
--- three numbers that take 16 bits
-pub three_small : {a b c : ℕ} {list : List ℕ} → (a ∷ b ∷ c ∷ []) ≡ list → Below 65536 list → (a < 65536) × (b < 65536) × (c < 65536)
-three_small {a} {b} {c} is small = go (rw (← is) at small)
-  where
-    go : Below 65536 (a ∷ b ∷ c ∷ []) → (a < 65536) × (b < 65536) × (c < 65536)
-    go (below_more one (below_more two (below_more three below_none))) = (one, two, three)
-
-module _ (node : ℕ → List ℕ) (count : ℕ) where
-  abbrev left : ℕ → List ℕ
-  left n = lists_from node (count - n) n
-
+module _ {X : Type 0} (f : X → List ℕ) (xs : List X) where
   -- the nodes before a number are written
-  pub record Noding (before after : List ℕ) (from at n : ℕ) : Type 0 where
-    pub within : n ≤ count
-    pub place : at ≡ from + 6 * n
-    pub rest : sets after at (word_bytes (left n)) ≡ sets before from (word_bytes (lists_from node count 0))
+  pub record Noding (before after : List ℕ) (from n : ℕ) : Type 0 where
+    pub put : after ≡ sets before from (word_bytes (flat_map f (take n xs)))
     pub long : length after ≡ length before
 
-  pub noding_none : (l : List ℕ) (from : ℕ) → Noding l l from from 0
-  noding_none l from =
-      let all : count - 0 ≡ count = omega arith in
-      record { within = omega arith; place = omega arith; rest = rw all; long = refl }
+  pub noding_none : (l : List ℕ) (from : ℕ) → Noding l l from 0
+  unfolding word_bytes
+  noding_none l from = record { put = refl; long = refl }
 
-  module _ {before after : List ℕ} {from at n : ℕ} (d : Noding before after from at n) where
-    left_more : n < count → left n ≡ node n ++ left (n + 1)
-    unfolding lists_from
-    left_more below = let one_left : count - n ≡ suc (count - suc n) = omega arith in rw (one_left, add-one)
-
-    pub noding_more : {next : List ℕ} {a b c : ℕ} → n < count → (a ∷ b ∷ c ∷ []) ≡ node n
-        → next ≡ sets after at (word_bytes (a ∷ b ∷ c ∷ []))
-        → Noding before next from (at + 6) (n + 1)
-    unfolding word_bytes
-    noding_more {next} {a} {b} {c} below is stored =
+  module _ {before after : List ℕ} {from n : ℕ} (d : Noding before after from n) where
+    pub noding_more : {next words : List ℕ} (blank : X) → ((x : X) → length (f x) ≡ 3) → n < length xs → words ≡ f (get_or xs n blank)
+        → next ≡ sets after (from + 6 * n) (word_bytes words)
+        → Noding before next from (n + 1)
+    noding_more {next} {words} blank three below is stored =
+        let size = length_words (flat_map f (take n xs)) in
+        let many = length_threes f three (take n xs) in
+        let few : length (take n xs) ≡ n = length-take-le n xs (omega arith) in
         record {
-          within = omega arith;
-          place = omega (arith, d.place);
-          rest =
-              rw stored
-              (sets_then after at (word_bytes (a ∷ b ∷ c ∷ [])) (at + 6) (word_bytes (left (n + 1))) (omega arith)
-              ∙ ap (sets after at)
-              (sym (words_append (a ∷ b ∷ c ∷ []) (left (n + 1)))
-              ∙ ap word_bytes (ap (λ (l : List ℕ). l ++ left (n + 1)) is ∙ sym (left_more below)))
-              ∙ d.rest);
-          long = ap length stored ∙ length-sets after at (word_bytes (a ∷ b ∷ c ∷ [])) ∙ d.long;
+          put =
+              stored
+              ∙ ap (λ (l : List ℕ). sets l (from + 6 * n) (word_bytes words)) d.put
+              ∙ sets_then before from (word_bytes (flat_map f (take n xs))) (from + 6 * n) (word_bytes words) (omega (arith, size, many, few))
+              ∙ ap (sets before from)
+              (sym (words_append (flat_map f (take n xs)) words)
+              ∙ ap word_bytes (ap (λ (l : List ℕ). flat_map f (take n xs) ++ l) is ∙ sym (one_more f xs n blank below)));
+          long = ap length stored ∙ length-sets after (from + 6 * n) (word_bytes words) ∙ d.long;
         }
 
-    pub noding_all : count ≤ n → after ≡ sets before from (word_bytes (lists_from node count 0))
-    unfolding lists_from word_bytes
-    noding_all past = let none : count - n ≡ 0 = omega arith in rw none at d.rest
+    pub noding_all : length xs ≤ n → after ≡ sets before from (word_bytes (flat_map f xs))
+    noding_all past = rw (take_all n xs past) at d.put

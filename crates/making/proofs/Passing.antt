@@ -1,62 +1,58 @@
 -- A sheet that passes and is put down: it can be written, and what is written is its book with its kinds' names.
 use mathlib.Core.Path.{◌≡◌, refl, sym, ap, ap₂, ◌∙◌}
-use mathlib.Core.Bool.{Bool, true, false, cond}
 use mathlib.Core.List.{List, [], ◌∷◌, ◌++◌}
-use Prim.Native.Nat.{ℕ, zero, suc, ◌+◌, ◌*◌, ◌-◌, ◌≤◌, ◌<◌}
-use native.Mathlib.Nat.{one-mul, add-zero, zero-add}
+use Prim.Native.Nat.{ℕ, suc, ◌+◌, ◌≤◌, ◌<◌}
+use native.Mathlib.Nat.{add-zero, zero-add}
 use native.Mathlib.Omega.{arith}
-use lib.ListN.{length, get_or}
+use lib.ListN.{length, get_or, length-map}
+use Rattle.std.specs.Prelude.{map}
+use Rattle.std.specs.List.{flat_map}
+use Rattle.std.proofs.lemmas.List.Concat.{flat_map-cons}
+use Rattle.std.proofs.lemmas.List.Folds.{flat_map-map}
 use Rattle.words.specs.Lists.{lists_from}
-use Rattle.words.specs.Words.{word_bytes, Below, below_none, below_more}
-use Rattle.forms.specs.Forms.{contents_of}
-use Rattle.names.specs.Names.{names_bytes, GoodName, GoodNames}
+use Rattle.words.specs.Words.{Below, below_more}
+use Rattle.names.specs.Names.{GoodNames}
 use Rattle.book.specs.Book.{Book, WellFormed}
-use Rattle.book.specs.Form.{named_sections}
 use Rattle.book.specs.Encode.{node_words, body_words, named_bytes}
+use Rattle.book.specs.declared.Node.{Node}
+use Rattle.book.specs.declared.Node.TheVariants.{Fail}
 use Rattle.book.proofs.Holding.{body_small}
 use Rattle.sheets.specs.Grammar.{Rule, Sheet}
-use Rattle.sheets.specs.Nodes.{rule_names, all_words, kind_names, size, sizes, sheet_book}
-use Rattle.sheets.specs.Spelling.{GoodWord}
+use Rattle.sheets.specs.Nodes.{kind_names, sizes, rules_nodes, sheet_book}
 use Rattle.sheets.proofs.Appearance.{kinds_by_first_appearance}
 use Rattle.sheets.proofs.Formed.{book_well_formed}
+use Rattle.sheets.proofs.Sizes.{length_rules_nodes}
 use Rattle.sheets.proofs.Spelled.{text_words}
+use Rattle.outline.specs.Raw.{raw_rules, rule_rows}
+use Rattle.outline.specs.declared.RawNode.{RawNode}
+use Rattle.outline.proofs.Sheets.{raw_rules_length, rows_length}
 use Rattle.resolving.specs.Letters.{word_at}
-use Rattle.resolving.specs.Words.{words_at, kinds_at}
-use Rattle.resolving.specs.Writing.{words_of_node}
-use Rattle.resolving.proofs.Nodes.{nodes_are}
+use Rattle.resolving.specs.Writing.{last_of, resolved}
+use Rattle.resolving.proofs.Nodes.{nodes_are, start_is}
 use Rattle.resolving.proofs.Placed.{sheet_told}
-use Rattle.resolving.proofs.Puts.{rules_down, place_is_told}
-use Rattle.resolving.proofs.Rows.{start_is}
-use Rattle.resolving.proofs.Words.{length_words}
-use Rattle.making.specs.Bytes.{nodes_words, kind_bytes, made_bytes, NameAt, ShortNames, Writable}
+use Rattle.making.specs.Bytes.{Down, largest, names_down, nodes_words, made_bytes, Writable}
 use Rattle.making.specs.Settled.{Pass, PutDown}
-use Rattle.making.specs.declared.Settled.{Settled}
+use Rattle.making.proofs.Numbers.{largest_below}
 
--- each of lists that take 16 bits
-below_left : (xs ys : List ℕ) → Below 65536 (xs ++ ys) → Below 65536 xs
-below_left [] ys b = below_none
-below_left (x ∷ xs) ys (below_more one more) = below_more one (below_left xs ys more)
-
-below_right : (xs : List ℕ) {ys : List ℕ} → Below 65536 (xs ++ ys) → Below 65536 ys
-below_right [] b = b
-below_right (x ∷ xs) (below_more one more) = below_right xs more
-
-below_each : (list : ℕ → List ℕ) (left n i : ℕ) → i < left → Below 65536 (lists_from list left n) → Below 65536 (list (n + i))
+-- the numbers of nodes one behind the other are those by number
+nodes_gathered : (list : ℕ → List ℕ) (nodes : List Node) (n : ℕ)
+    → ((i : ℕ) → i < length nodes → list (n + i) ≡ node_words (get_or nodes i Fail))
+    → lists_from list (length nodes) n ≡ flat_map node_words nodes
 unfolding lists_from
-below_each list zero n i under b = absurd (omega arith)
-below_each list (suc left) n zero under b = rw add-zero (below_left (list n) _ b)
-below_each list (suc left) n (suc i) under b =
-    let next : n + suc i ≡ suc n + i = omega arith in
-    rw next (below_each list left (suc n) i (omega arith) (below_right (list n) b))
+nodes_gathered list [] n each = refl
+nodes_gathered list (node ∷ nodes) n each =
+    ap₂ (λ (a b : List ℕ). a ++ b) (rw add-zero at (each 0 (omega arith)))
+    (nodes_gathered list nodes (suc n)
+    (λ i below. let next : n + suc i ≡ suc n + i = omega arith in rw next at (each (suc i) (omega arith))))
+    ∙ sym (flat_map-cons node_words node nodes)
 
--- the word of a kind that is put down
-kind_word : (text kinds : List ℕ) (left n k : ℕ) → k < left → get_or (words_at text kinds 1 left n) k [] ≡ word_at text (get_or kinds (n + k) 0)
-unfolding words_at
-kind_word text kinds zero n k under = absurd (omega arith)
-kind_word text kinds (suc left) n zero under = rw (one-mul, add-zero)
-kind_word text kinds (suc left) n (suc k) under =
-    let next : n + suc k ≡ suc n + k = omega arith in
-    rw next (kind_word text kinds left (suc n) k (omega arith))
+-- the largest of the lengths of words is no more than each may be
+lengths_upto : (most : ℕ) (words : List (List ℕ)) → ((n : ℕ) → n < length words → length (get_or words n []) ≤ most)
+    → largest (map length words) ≤ most
+unfolding largest
+lengths_upto most [] each = omega arith
+lengths_upto most (w ∷ words) each =
+    omega (arith, each 0 (omega arith), lengths_upto most words (λ n below. each (suc n) (omega arith)))
 
 -- the kinds of a sheet are good names
 pub kinds_good : (text : List ℕ) {first : Rule} {further : List Rule} → Sheet text first further → GoodNames (kind_names (first ∷ further))
@@ -72,8 +68,8 @@ kinds_good text {first} {further} read =
       none_twice = (kinds_by_first_appearance (first ∷ further)).none_twice;
     }
 
-module _ {text nodes rows kinds : List ℕ} {first : Rule} {further : List Rule} {s : Settled} (read : Sheet text first further)
-    (pass : Pass (first ∷ further)) (put : PutDown text (first ∷ further) s nodes rows kinds) where
+module _ {text : List ℕ} {first : Rule} {further : List Rule} {d : Down} (read : Sheet text first further) (pass : Pass (first ∷ further))
+    (put : PutDown text (first ∷ further) d) where
   abbrev rules : List Rule
   rules = first ∷ further
 
@@ -83,54 +79,52 @@ module _ {text nodes rows kinds : List ℕ} {first : Rule} {further : List Rule}
   well_formed : WellFormed book
   well_formed = book_well_formed first further pass.small pass.some_kind
 
-  many_is : s.kinds ≡ length (kind_names rules)
-  many_is = sym (length_words text kinds 1 s.kinds 0) ∙ ap length put.kinds_stand
+  names_are : names_down d ≡ kind_names rules
+  names_are = rw put.text_is put.kinds_are
+
+  many_is : length d.kinds ≡ length (kind_names rules)
+  many_is = sym (length-map d.kinds (word_at text)) ∙ ap length put.kinds_are
+
+  count_is : length d.nodes ≡ sizes rules
+  count_is = ap length put.nodes_are ∙ raw_rules_length 0 rules
 
   -- the settings and nodes that are written are the book's
-  written_nodes : nodes_words text nodes s.nodes rows s.rules kinds s.kinds ≡ lists_from (λ n. node_words (book.node n))
-      (sizes rules) 0
-  written_nodes =
-      rw (put.nodes_are, put.rules_are)
-      (nodes_are kinds s.kinds (sheet_told text read) (rules_down rules put.nodes_stand) put.rules_stand put.kinds_stand)
-
-  body_is : (s.kinds ∷ get_or rows 1 0 ∷ nodes_words text nodes s.nodes rows s.rules kinds s.kinds) ≡ body_words book
-  unfolding body_words sheet_book
-  body_is = rw (written_nodes, many_is, start_is rows first further put.rules_stand)
-
-  count_is : book.count ≡ sizes rules
+  written_nodes : nodes_words d ≡ lists_from (λ n. node_words (book.node n)) (sizes rules) 0
   unfolding sheet_book
-  count_is = refl
+  written_nodes =
+      rw (put.text_is, put.nodes_are, put.rows_are)
+      (sym (flat_map-map node_words (λ (raw : RawNode). resolved text (rule_rows 0 rules) d.kinds raw.node raw.place) (raw_rules 0 rules))
+      ∙ ap (flat_map node_words) (nodes_are (sheet_told text read) d.kinds put.kinds_are)
+      ∙ sym (nodes_gathered (λ n. node_words (get_or (rules_nodes rules 0 rules) n Fail)) (rules_nodes rules 0 rules) 0
+      (λ i below. rw zero-add))
+      ∙ ap (λ (count : ℕ). lists_from (λ n. node_words (get_or (rules_nodes rules 0 rules) n Fail)) count 0) (length_rules_nodes rules 0 rules))
+
+  body_is : (length d.kinds ∷ last_of d.rows 0 ∷ nodes_words d) ≡ body_words book
+  unfolding body_words sheet_book
+  body_is = rw (written_nodes, many_is, put.rows_are, start_is first further)
+
+  sizes_are : book.count ≡ sizes rules
+  unfolding sheet_book
+  sizes_are = refl
 
   -- all that is written is the book with its kinds' names
-  pub made_is : made_bytes text nodes s.nodes rows s.rules kinds s.kinds ≡ named_bytes book (kind_names rules)
+  pub made_is : made_bytes d ≡ named_bytes book (kind_names rules)
   unfolding made_bytes named_bytes
-  made_is = rw (body_is, put.kinds_stand, put.nodes_are, count_is)
+  made_is = rw (body_is, names_are, count_is, sizes_are)
 
-  small_body : Below 65536 (s.kinds ∷ get_or rows 1 0 ∷ nodes_words text nodes s.nodes rows s.rules kinds s.kinds)
+  small_body : Below 65536 (length d.kinds ∷ last_of d.rows 0 ∷ nodes_words d)
   small_body = rw body_is (body_small book well_formed)
 
-  name_stands : (k : ℕ) → k < s.kinds → NameAt text (get_or kinds k 0)
-  name_stands k below =
-      let good = (text_words 0 text read).kinds k (omega (arith, many_is)) in
-      let is : get_or (kind_names rules) k [] ≡ word_at text (get_or kinds k 0) =
-      ap (λ (l : List (List ℕ)). get_or l k []) (sym put.kinds_stand) ∙ rw zero-add at (kind_word text kinds s.kinds 0 k below) in
-      record { some_letter = rw is at good.some_letter; few_letters = rw is at good.few_letters }
-
-  pub can_write : Writable text nodes s.nodes rows s.rules kinds s.kinds
+  pub can_write : Writable d
   unfolding sheet_book
   can_write =
       record {
-        nodes_down = put.nodes_down;
-        rules_down = put.rules_down;
-        few_nodes = omega (arith, put.nodes_are, well_formed.few_nodes);
-        some_rule = omega (arith, put.rules_are);
-        small_start = start_small small_body;
-        small_nodes = λ n below. rw zero-add at (below_each _ s.nodes 0 n below (nodes_small small_body));
-        names = record { kinds_down = put.kinds_down; few_kinds = omega (arith, many_is, well_formed.few_kinds); name_at = name_stands };
+        few_nodes = omega (arith, count_is, well_formed.few_nodes);
+        some_rule = omega (arith, ap length put.rows_are, rows_length 0 rules);
+        few_kinds = omega (arith, many_is, well_formed.few_kinds);
+        small = largest_below (omega arith) (behind small_body);
+        short = rw names_are (lengths_upto 16 (kind_names rules) (λ n below. ((text_words 0 text read).kinds n below).few_letters));
       }
     where
-      start_small : {k start : ℕ} {more : List ℕ} → Below 65536 (k ∷ start ∷ more) → start < 65536
-      start_small (below_more one (below_more two rest)) = two
-
-      nodes_small : {k start : ℕ} {more : List ℕ} → Below 65536 (k ∷ start ∷ more) → Below 65536 more
-      nodes_small (below_more one (below_more two rest)) = rest
+      behind : {k : ℕ} {more : List ℕ} → Below 65536 (k ∷ more) → Below 65536 more
+      behind (below_more one rest) = rest

@@ -1,17 +1,17 @@
 -- What is promised of making a book: every text has one answer, 26 stands where no sheet begins so, and a book that is made is the sheet's.
 use mathlib.Core.Path.{◌≡◌, refl, sym, ap, ◌∙◌}
-use mathlib.Core.Bool.{Bool, true, false, cond}
-use mathlib.Core.Logic.{◌↔◌, ◌≢◌, ◌⊎◌, inl, inr}
-use mathlib.Core.List.{List, [], ◌∷◌, ◌++◌}
+use mathlib.Core.Bool.{Bool, true, false}
+use mathlib.Core.Logic.{◌↔◌, ◌≢◌, inl, inr}
+use mathlib.Core.List.{List, [], ◌∷◌}
 use Prim.Native.Nat.{ℕ, ◌-◌, ◌≤◌, ◌<◌}
 use native.Mathlib.Omega.{arith}
 use borrow.Author.Tests.{leb-true, leb-false, eqb-true, eqb-false}
 use lib.Dec.{leb, eqb}
-use lib.ListN.{length, take, drop, length-append, length-replicate}
+use lib.ListN.{length, length-append, length-replicate}
 use lib.Seq.{take-append_seam, drop-append_seam}
 use Rattle.words.specs.Beginnings.{Parts, Lacks}
 use Rattle.words.specs.Words.{zeros}
-use Rattle.written.specs.Written.{Out, written, with_zeros, handed, handed_over, refused_with, taken, OUT-ROOM}
+use Rattle.written.specs.Written.{Out, written, handed, handed_over, refused_with, taken, OUT-ROOM}
 use Rattle.written.specs.declared.Written.{Written}
 use Rattle.book.specs.Form.{DONE, named}
 use Rattle.book.specs.Encode.{named_bytes}
@@ -21,11 +21,11 @@ use Rattle.book.proofs.Laws.{length-named}
 use Rattle.book.specs.declared.Judged.{Judged as Verdict}
 use Rattle.sheets.specs.Grammar.{Rule, Sheet, IsSheet}
 use Rattle.sheets.specs.Nodes.{kind_names, sheet_book}
-use Rattle.sheets.specs.Made.{SHEET, TWICE, BIG, KINDLESS, repeats, repeated_at, too_big}
+use Rattle.sheets.specs.Made.{SHEET, KINDLESS, repeats, too_big}
 use Rattle.sheets.proofs.Appearance.{kinds_by_first_appearance}
 use Rattle.sheets.proofs.Derived.{book_derives_the_meaning}
 use Rattle.sheets.proofs.Formed.{book_well_formed}
-use Rattle.making.specs.Makes.{judged_by, Answers, wrong_at, more_due, judged, made_of, Makes, place_of, Places}
+use Rattle.making.specs.Makes.{judged_by, wrong_at, more_due, judged, made_of, Makes, place_of, Places}
 use Rattle.making.specs.Made.{BookOfSheet, BookMade, MakeAnswers, NoSheetAt}
 use Rattle.making.specs.Settled.{Refused, twice, big, kindless, Pass}
 use Rattle.making.proofs.Passing.{kinds_good}

@@ -1,24 +1,23 @@
 -- A book written part by part into a clear buffer: contents, kinds and start, nodes, names.
-use mathlib.Core.Path.{◌≡◌, refl, sym, ap, ap₂, ◌∙◌}
-use mathlib.Core.Bool.{true, false, cond}
-use mathlib.Core.List.{List, [], ◌∷◌, ◌++◌, append_assoc}
-use Prim.Native.Nat.{ℕ, zero, suc, ◌+◌, ◌*◌, ◌-◌, ◌≤◌, ◌<◌}
+use mathlib.Core.Path.{◌≡◌, sym, ap, ◌∙◌}
+use mathlib.Core.List.{List, [], ◌∷◌, ◌++◌}
+use Prim.Native.Nat.{ℕ, ◌+◌, ◌*◌, ◌≤◌, ◌<◌}
 use native.Mathlib.Omega.{arith}
 use borrow.Author.Tests.{le-leb, lt-leb}
-use lib.Dec.{leb}
-use lib.ListN.{length, get_or, length-append, length-replicate}
-use lib.Seq.{sets, length-sets}
+use lib.ListN.{length, length-append, length-replicate}
+use lib.Seq.{sets}
 use Rattle.words.specs.Words.{with_u16, word_bytes, zeros}
 use Rattle.words.proofs.Bytes.{length_words, words_append}
-use Rattle.words.proofs.Lists.{length_lists}
 use Rattle.words.proofs.Stored.{sets_then, sets_word, sets-zeros}
 use Rattle.forms.specs.Forms.{contents_of}
-use Rattle.written.specs.Written.{written, with_zeros, handed, handed_over, refused_with, OUT-ROOM, Hands}
+use Rattle.written.specs.Written.{written, with_zeros, handed, refused_with, OUT-ROOM, Hands}
 use Rattle.written.specs.declared.Written.{Written}
 use Rattle.book.specs.Form.{named_sections}
-use Rattle.resolving.specs.Writing.{words_of_node}
-use Rattle.resolving.proofs.NodeLines.{three_numbers}
-use Rattle.making.specs.Bytes.{kind_bytes, nodes_words, made_bytes}
+use Rattle.book.proofs.Holding.{length_node}
+use Rattle.names.specs.Names.{names_bytes}
+use Rattle.resolving.specs.Writing.{last_of, resolved}
+use Rattle.making.specs.Bytes.{Down, names_down, node_written, nodes_words, made_bytes}
+use Rattle.making.proofs.Numbers.{length_threes}
 
 -- one run of stores behind another
 behind : (l : List ℕ) {prev next : List ℕ} (done : List ℕ) {at : ℕ} (more : List ℕ) → prev ≡ sets l 0 done → next ≡ sets prev at more
@@ -33,33 +32,37 @@ cleared_long room is = ap length is ∙ length-replicate room 0
 pub cleared-zeros : (room : ℕ) {after : List ℕ} → after ≡ zeros room → after ≡ zeros (length after)
 cleared-zeros room is = is ∙ ap zeros (sym (cleared_long room is))
 
-module _ (text nodes : List ℕ) (count : ℕ) (rows : List ℕ) (rules : ℕ) (kinds : List ℕ) (many : ℕ) where
+module _ (d : Down) where
   abbrev names : List ℕ
-  names = kind_bytes text kinds many
+  names = names_bytes (names_down d)
+
+  abbrev count : ℕ
+  count = length d.nodes
+
+  abbrev many : ℕ
+  many = length d.kinds
+
+  abbrev start : ℕ
+  start = last_of d.rows 0
 
   abbrev contents : List ℕ
   contents = word_bytes (contents_of (named_sections count (length names)))
 
-  abbrev down : List ℕ
-  down = nodes_words text nodes count rows rules kinds many
+  abbrev written_nodes : List ℕ
+  written_nodes = nodes_words d
 
   abbrev whole : List ℕ
-  whole = made_bytes text nodes count rows rules kinds many
+  whole = made_bytes d
 
   -- the parts, one behind the other
-  parts : contents ++ word_bytes (many ∷ []) ++ word_bytes (get_or rows 1 0 ∷ []) ++ word_bytes down ++ names ≡ whole
+  parts : contents ++ word_bytes (many ∷ []) ++ word_bytes (start ∷ []) ++ word_bytes written_nodes ++ names ≡ whole
   unfolding made_bytes word_bytes
   parts =
-      sym (ap (λ (l : List ℕ). l ++ names) (words_append (contents_of (named_sections count (length names))) (many ∷ get_or rows 1 0 ∷ down)))
+      sym (ap (λ (l : List ℕ). l ++ names) (words_append (contents_of (named_sections count (length names))) (many ∷ start ∷ written_nodes)))
 
-  length_nodes : length (word_bytes down) ≡ 6 * count
+  length_nodes : length (word_bytes written_nodes) ≡ 6 * count
   length_nodes =
-      length_words down
-      ∙ omega (
-        arith,
-        length_lists (words_of_node text rows rules kinds many nodes) 3
-            (three_numbers text rows rules kinds many nodes) count 0,
-      )
+      length_words written_nodes ∙ omega (arith, length_threes (node_written d) (λ raw. length_node (resolved d.text d.rows d.kinds raw.node raw.place)) d.nodes)
 
   length_contents : length contents ≡ 20
   length_contents = length_words (contents_of (named_sections count (length names)))
@@ -67,40 +70,41 @@ module _ (text nodes : List ℕ) (count : ℕ) (rows : List ℕ) (rules : ℕ) (
   two_long : length (contents ++ word_bytes (many ∷ [])) ≡ 22
   two_long = length-append contents (word_bytes (many ∷ [])) ∙ omega (arith, length_contents, length_words (many ∷ []))
 
-  three_long : length (contents ++ word_bytes (many ∷ []) ++ word_bytes (get_or rows 1 0 ∷ [])) ≡ 24
+  three_long : length (contents ++ word_bytes (many ∷ []) ++ word_bytes (start ∷ [])) ≡ 24
   three_long =
-      length-append (contents ++ word_bytes (many ∷ [])) (word_bytes (get_or rows 1 0 ∷ []))
-      ∙ omega (arith, two_long, length_words (get_or rows 1 0 ∷ []))
+      length-append (contents ++ word_bytes (many ∷ [])) (word_bytes (start ∷ []))
+      ∙ omega (arith, two_long, length_words (start ∷ []))
 
-  four_long : length (contents ++ word_bytes (many ∷ []) ++ word_bytes (get_or rows 1 0 ∷ []) ++ word_bytes down) ≡ 24 + 6 * count
+  four_long : length (contents ++ word_bytes (many ∷ []) ++ word_bytes (start ∷ []) ++ word_bytes written_nodes) ≡ 24 + 6 * count
   four_long =
-      length-append (contents ++ word_bytes (many ∷ []) ++ word_bytes (get_or rows 1 0 ∷ [])) (word_bytes down)
+      length-append (contents ++ word_bytes (many ∷ []) ++ word_bytes (start ∷ [])) (word_bytes written_nodes)
       ∙ omega (arith, three_long, length_nodes)
 
   pub length_whole : length whole ≡ 24 + 6 * count + length names
   length_whole =
       ap length (sym parts)
-      ∙ length-append (contents ++ word_bytes (many ∷ []) ++ word_bytes (get_or rows 1 0 ∷ []) ++ word_bytes down) names
+      ∙ length-append (contents ++ word_bytes (many ∷ []) ++ word_bytes (start ∷ []) ++ word_bytes written_nodes) names
       ∙ omega (arith, four_long)
 
   -- stored one behind the other in a clear buffer they are the book and zeros behind it
-  pub book-written : {clear one two three four five : List ℕ} {size at : ℕ} → at ≡ 20 → clear ≡ zeros (length clear) → size ≡ length names
+  pub book-written : {clear one two three four five : List ℕ} {size at count' many' start' : ℕ}
+      → count' ≡ count → many' ≡ many → start' ≡ start → at ≡ 20 → clear ≡ zeros (length clear) → size ≡ length names
       → 24 + 6 * count + size ≤ length clear
-      → one ≡ sets clear 0 (word_bytes (contents_of (named_sections count size)))
-      → two ≡ with_u16 one at many
-      → three ≡ with_u16 two (at + 2) (get_or rows 1 0)
-      → four ≡ sets three (at + 4) (word_bytes down)
-      → five ≡ sets four (at + 4 + 6 * count) names
+      → one ≡ sets clear 0 (word_bytes (contents_of (named_sections count' size)))
+      → two ≡ with_u16 one at many'
+      → three ≡ with_u16 two (at + 2) start'
+      → four ≡ sets three (at + 4) (word_bytes written_nodes)
+      → five ≡ sets four (at + 4 + 6 * count') names
       → five ≡ with_zeros whole (length clear)
-  book-written {clear} {one} {two} {three} {four} {five} {size} {at} place is-clear size_is fits first second third fourth fifth =
-      let a : one ≡ sets clear 0 contents = rw size_is at first in
-      let b = behind clear contents (word_bytes (many ∷ [])) a (second ∙ sets_word one at many) (place ∙ sym length_contents) in
-      let c = behind clear (contents ++ word_bytes (many ∷ [])) (word_bytes (get_or rows 1 0 ∷ [])) b
-      (third ∙ sets_word two (at + 2) (get_or rows 1 0)) (omega (arith, two_long)) in
-      let d = behind clear (contents ++ word_bytes (many ∷ []) ++ word_bytes (get_or rows 1 0 ∷ [])) (word_bytes down) c fourth
+  book-written {clear} {one} {two} {three} {four} {five} {size} {at} {count'} {many'} {start'} count_is many_is start_is place is-clear size_is fits first second third fourth fifth =
+      let a : one ≡ sets clear 0 contents = rw (size_is, count_is) at first in
+      let b = behind clear contents (word_bytes (many ∷ [])) a (second ∙ sets_word one at many' ∙ ap (λ (n : ℕ). sets one at (word_bytes (n ∷ []))) many_is) (place ∙ sym length_contents) in
+      let c = behind clear (contents ++ word_bytes (many ∷ [])) (word_bytes (start ∷ [])) b
+      (third ∙ sets_word two (at + 2) start' ∙ ap (λ (n : ℕ). sets two (at + 2) (word_bytes (n ∷ []))) start_is) (omega (arith, two_long)) in
+      let d = behind clear (contents ++ word_bytes (many ∷ []) ++ word_bytes (start ∷ [])) (word_bytes written_nodes) c fourth
       (omega (arith, three_long)) in
-      let e = behind clear (contents ++ word_bytes (many ∷ []) ++ word_bytes (get_or rows 1 0 ∷ []) ++ word_bytes down) names d fifth
-      (omega (arith, four_long)) in
+      let e = behind clear (contents ++ word_bytes (many ∷ []) ++ word_bytes (start ∷ []) ++ word_bytes written_nodes) names d fifth
+      (omega (arith, four_long, count_is)) in
       e ∙ ap (sets clear 0) parts ∙ ap (λ (l : List ℕ). sets l 0 whole) is-clear
       ∙ sets-zeros (length clear) whole (omega (arith, length_whole))
 

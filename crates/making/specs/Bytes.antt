@@ -1,51 +1,64 @@
--- The bytes that are written of a sheet's nodes, rules and kinds, which are put down by their places.
-use Rattle.std.specs.Prelude.{ℕ, ◌+◌, ◌*◌, ◌≤◌, ◌<◌, List, [], ◌∷◌, ◌++◌, length, get_or}
-use Rattle.words.specs.Lists.{lists_from}
-use Rattle.words.specs.Words.{word_bytes, Below}
+-- What is put down of a sheet, and the bytes that are written of it.
+use Rattle.std.specs.Prelude.{ℕ, ◌≤◌, ◌<◌, cond, ltb, max, List, [], ◌∷◌, ◌++◌, length, get_or, map}
+use Rattle.std.specs.List.{flat_map}
+use Rattle.words.specs.Words.{word_bytes}
 use Rattle.forms.specs.Forms.{contents_of}
 use Rattle.names.specs.Names.{names_bytes}
-use Rattle.book.specs.Form.{named_sections}
-use Rattle.resolving.specs.Letters.{word_at}
+use Rattle.written.specs.Written.{written}
+use Rattle.written.specs.declared.Written.{Written}
+use Rattle.book.specs.Form.{named_sections, DONE, NODE}
+use Rattle.book.specs.Encode.{node_words}
+use Rattle.book.specs.declared.Node.TheVariants.{Fail}
+use Rattle.outline.specs.declared.RawNode.{RawNode}
+use Rattle.outline.specs.declared.Row.{Row}
 use Rattle.resolving.specs.Words.{kinds_at}
-use Rattle.resolving.specs.Writing.{words_of_node}
+use Rattle.resolving.specs.Writing.{last_of, resolved}
 
--- a name: its size, then its letters
-abbrev pub name_bytes : List ℕ → List ℕ
-name_bytes name = length name ∷ name
+-- a sheet's text, and its nodes, rules and kinds as they are put down
+pub record Down : Type 0 where
+  pub text : List ℕ
+  pub nodes : List RawNode
+  pub rows : List Row
+  pub kinds : List ℕ
 
--- a name of 1 to 16 letters stands at a place
-pub record NameAt (text : List ℕ) (place : ℕ) : Type 0 where
-  pub some_letter : 1 ≤ length (word_at text place)
-  pub few_letters : length (word_at text place) ≤ 16
+abbrev pub down : List ℕ → List RawNode → List Row → List ℕ → Down
+down text nodes rows kinds = record { text = text; nodes = nodes; rows = rows; kinds = kinds }
 
--- so many kinds are put down, at most 64, each where a name stands
-pub record ShortNames (text kinds : List ℕ) (many : ℕ) : Type 0 where
-  pub kinds_down : many ≤ length kinds
-  pub few_kinds : many ≤ 64
-  pub name_at : (k : ℕ) → k < many → NameAt text (get_or kinds k 0)
+-- the largest of numbers
+unfoldable pub largest : List ℕ → ℕ
+largest [] = 0
+largest (n ∷ more) = max n (largest more)
 
--- the names of so many kinds
-abbrev pub kind_bytes : List ℕ → List ℕ → ℕ → List ℕ
-kind_bytes text kinds many = names_bytes (kinds_at text kinds many)
+module _ (d : Down) where
+  -- the names of the kinds
+  abbrev pub names_down : List (List ℕ)
+  names_down = kinds_at d.text d.kinds
 
-module _ (text nodes : List ℕ) (count : ℕ) (rows : List ℕ) (rules : ℕ) (kinds : List ℕ) (many : ℕ) where
-  -- type, left and right of each node
+  -- type, left and right of a node that is put down, and of all
+  abbrev pub node_written : RawNode → List ℕ
+  node_written raw = node_words (resolved d.text d.rows d.kinds raw.node raw.place)
+
   abbrev pub nodes_words : List ℕ
-  nodes_words = lists_from (words_of_node text rows rules kinds many nodes) count 0
+  nodes_words = flat_map node_written d.nodes
 
   -- contents, kinds and start, the nodes, and the names
   unfoldable pub made_bytes : List ℕ
   made_bytes =
-      word_bytes (contents_of (named_sections count (length (kind_bytes text kinds many)))
-      ++ (many ∷ get_or rows 1 0 ∷ nodes_words))
-      ++ kind_bytes text kinds many
+      word_bytes (contents_of (named_sections (length d.nodes) (length (names_bytes names_down)))
+      ++ (length d.kinds ∷ last_of d.rows 0 ∷ nodes_words))
+      ++ names_bytes names_down
 
-  -- so many nodes, rules and kinds are put down, and all numbers take 16 bits
+  -- there is a rule, nodes and kinds are few, all numbers take 16 bits, and all names are short
   pub record Writable : Type 0 where
-    pub nodes_down : 4 * count ≤ length nodes
-    pub rules_down : 2 * rules ≤ length rows
-    pub few_nodes : count ≤ 512
-    pub some_rule : 1 ≤ rules
-    pub small_start : get_or rows 1 0 < 65536
-    pub small_nodes : (n : ℕ) → n < count → Below 65536 (words_of_node text rows rules kinds many nodes n)
-    pub names : ShortNames text kinds many
+    pub few_nodes : length d.nodes ≤ 512
+    pub some_rule : 1 ≤ length d.rows
+    pub few_kinds : length d.kinds ≤ 64
+    pub small : largest (last_of d.rows 0 ∷ nodes_words) < 65536
+    pub short : largest (map length names_down) ≤ 16
+
+  -- the place of the text from which a node comes, or 4 with the number of nodes
+  unfoldable pub place_down : ℕ → Written
+  place_down node =
+      cond (ltb node (length d.nodes))
+      (written DONE 0 (get_or d.nodes node (record { node = Fail; place = 0 })).place)
+      (written NODE 0 (length d.nodes))

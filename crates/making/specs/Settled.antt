@@ -1,18 +1,23 @@
--- What is settled of a sheet before a book is written: 26 to 29, or its nodes, rules and kinds put down.
-use Rattle.std.specs.Prelude.{ℕ, ◌*◌, ◌≤◌, ◌<◌, ◌≡◌, ◌≢◌, true, false, List, [], ◌∷◌, length}
-use Rattle.book.specs.Form.{DONE}
+-- What is settled of a sheet before a book is written: why none is made, or its nodes, rules and kinds put down.
+use Rattle.std.specs.Prelude.{ℕ, ◌<◌, ◌≡◌, true, false, List, [], ◌∷◌, length}
+use Rattle.written.specs.Written.{written}
+use Rattle.written.specs.declared.Written.{Written}
 use Rattle.sheets.specs.Grammar.{Rule, Sheet}
-use Rattle.sheets.specs.Nodes.{kind_names, sizes}
+use Rattle.sheets.specs.Nodes.{kind_names}
 use Rattle.sheets.specs.Made.{SHEET, TWICE, BIG, KINDLESS, repeats, repeated_at, too_big}
 use Rattle.syntax.specs.Machine.{wrong, read_sheet}
 use Rattle.outline.specs.Raw.{raw_rules, rule_rows}
 use Rattle.resolving.specs.Words.{kinds_at}
-use Rattle.resolving.specs.Standing.{StandAt}
-use Rattle.making.specs.declared.Settled.{Settled}
+use Rattle.making.specs.Bytes.{Down}
+use Rattle.making.specs.declared.Refusal.{Refusal}
+use Rattle.making.specs.declared.Refusal.TheVariants.{NoSheet, NamedTwice, TooBig, Kindless}
 
--- a refusal with its place: nothing is put down
-abbrev pub refusal_at : ℕ → ℕ → Settled
-refusal_at number place = record { number = number; place = place; nodes = 0; rules = 0; kinds = 0 }
+-- the answer that a refusal is: its number and its place
+abbrev pub written_by : Refusal → Written
+written_by (NoSheet place) = written SHEET 0 place
+written_by (NamedTwice place) = written TWICE 0 place
+written_by TooBig = written BIG 0 0
+written_by Kindless = written KINDLESS 0 0
 
 -- rules are refused with a number and a place, or pass
 pub data Refused (rules : List Rule) : ℕ → ℕ → Type 0 where
@@ -25,30 +30,25 @@ pub record Pass (rules : List Rule) : Type 0 where
   pub small : too_big rules ≡ false
   pub some_kind : 0 < length (kind_names rules)
 
--- the nodes, rules and kinds of a sheet are put down, and how many
-pub record PutDown (text : List ℕ) (rules : List Rule) (s : Settled) (nodes rows kinds : List ℕ) : Type 0 where
-  pub nodes_are : s.nodes ≡ sizes rules
-  pub rules_are : s.rules ≡ length rules
-  pub nodes_stand : StandAt nodes 0 (raw_rules 0 rules)
-  pub rules_stand : StandAt rows 0 (rule_rows 0 rules)
-  pub kinds_stand : kinds_at text kinds s.kinds ≡ kind_names rules
-  pub nodes_down : 4 * s.nodes ≤ length nodes
-  pub rules_down : 2 * s.rules ≤ length rows
-  pub kinds_down : s.kinds ≤ length kinds
+-- the nodes, rules and kinds of a sheet are put down
+pub record PutDown (text : List ℕ) (rules : List Rule) (d : Down) : Type 0 where
+  pub text_is : d.text ≡ text
+  pub nodes_are : d.nodes ≡ raw_rules 0 rules
+  pub rows_are : d.rows ≡ rule_rows 0 rules
+  pub kinds_are : kinds_at text d.kinds ≡ kind_names rules
 
--- a text is no sheet, or its rules are refused, or they pass and are put down
-pub data SettledAs (text : List ℕ) : Settled → List ℕ → List ℕ → List ℕ → Type 0 where
-  no_sheet : {s : Settled} {nodes rows kinds : List ℕ}
-      → s.number ≡ SHEET
-      → read_sheet text ≡ wrong s.place
-      → SettledAs text s nodes rows kinds
-  refused : {first : Rule} {further : List Rule} {s : Settled} {nodes rows kinds : List ℕ}
+-- a text is a sheet whose rules pass and are put down
+pub record SettledAs (text : List ℕ) (d : Down) : Type 0 where
+  pub first : Rule
+  pub further : List Rule
+  pub sheet : Sheet text first further
+  pub pass : Pass (first ∷ further)
+  pub put : PutDown text (first ∷ further) d
+
+-- or it is no sheet, or its rules are refused
+pub data RefusedAs (text : List ℕ) : Refusal → Type 0 where
+  no_sheet : {place : ℕ} → read_sheet text ≡ wrong place → RefusedAs text (NoSheet place)
+  refused : {first : Rule} {further : List Rule} {refusal : Refusal}
       → Sheet text first further
-      → Refused (first ∷ further) s.number s.place
-      → SettledAs text s nodes rows kinds
-  passed : {first : Rule} {further : List Rule} {s : Settled} {nodes rows kinds : List ℕ}
-      → Sheet text first further
-      → s.number ≡ DONE
-      → Pass (first ∷ further)
-      → PutDown text (first ∷ further) s nodes rows kinds
-      → SettledAs text s nodes rows kinds
+      → Refused (first ∷ further) (written_by refusal).number (written_by refusal).place
+      → RefusedAs text refusal

@@ -4,15 +4,21 @@ use native.Mathlib.Omega.{arith}
 use native.Mathlib.Numerals.{add-one}
 use mathlib.Core.Path.{◌≡◌, refl, sym, ap, ◌∙◌}
 use mathlib.Core.Bool.{Bool, true, false, cond}
-use mathlib.Core.List.{List, [], ◌∷◌, ◌++◌, append_assoc, append-nil}
-use lib.Dec.{eqb}
+use mathlib.Core.List.{List, [], ◌∷◌}
+use lib.Dec.{eqb, ltb}
+use borrow.Author.Tests.{ltb-false}
+use Rattle.std.specs.List.{position_or_len}
+use Rattle.std.specs.Prelude.{Option, Some, None}
 use lib.ListN.{length, get_or, take, drop, length-drop, drop_of_length-le}
-use lib.Seq.{drop-cons, take-suc, take_all}
+use lib.Seq.{drop-cons, take_all}
 use Rattle.marks.specs.declared.Position.{Position}
 use Rattle.lines.specs.Text.{text}
-use Rattle.lines.specs.Lines.{spaced, line_feed}
-use Rattle.prints.specs.Prints.{Adds, spaces}
-use Rattle.prints.proofs.Laws.{adds_then}
+use Rattle.prints.specs.Digits.{spaced}
+use Rattle.lines.specs.Lines.{line_feed}
+use Rattle.prints.specs.declared.Page.{Page}
+use Rattle.prints.specs.Prints.{spaces}
+use Rattle.prints.specs.Pages.{Added}
+use Rattle.prints.proofs.Laws.{added_then}
 use Rattle.marks.specs.Marks.{position, behind, position_of, before_of, place_text, to_feed, line_text, mark_lines}
 
 -- the position past a byte at a place
@@ -85,42 +91,44 @@ module _ (sheet : List ℕ) (place : ℕ) {front : List ℕ} {p : Position} (is 
 
 -- ---- a line
 
--- the bytes before a place have no line feed
-pub record Unbroken (rest : List ℕ) (at : ℕ) : Type 0 where
-  pub within : at ≤ length rest
-  pub is : take at rest ++ to_feed (drop at rest) ≡ to_feed rest
+-- whether a byte is a line feed
+abbrev pub feed : ℕ → Bool
+feed byte = eqb byte 10
 
-pub unbroken_none : (rest : List ℕ) → Unbroken rest 0
-unbroken_none rest = record { within = omega arith; is = refl }
-
-pub unbroken_more : {rest : List ℕ} {at : ℕ} → at < length rest → eqb (get_or rest at 0) 10 ≡ false → Unbroken rest at
-    → Unbroken rest (at + 1)
+-- the bytes before the first line feed
+feed_taken : (rest : List ℕ) → take (position_or_len feed rest) rest ≡ to_feed rest
 unfolding to_feed
-unbroken_more {rest} {at} below other u =
-    record {
-      within = omega arith;
-      is =
-          rw (add-one at, take-suc rest at 0 below)
-          (append_assoc (take at rest) (get_or rest at 0 ∷ []) (to_feed (drop (suc at) rest)) ∙ go ∙ u.is);
-    }
+feed_taken [] = refl
+feed_taken (byte ∷ more) = go (eqb byte 10) refl (feed_taken more)
   where
-    go : take at rest ++ (get_or rest at 0 ∷ to_feed (drop (suc at) rest)) ≡ take at rest ++ to_feed (drop at rest)
-    go = rw (drop-cons rest at 0 below, other)
+    go : (t : Bool)
+        → eqb byte 10 ≡ t
+        → take (position_or_len feed more) more ≡ to_feed more
+        → take (position_or_len feed (byte ∷ more)) (byte ∷ more) ≡ to_feed (byte ∷ more)
+    go true e taken = rw e refl
+    go false e taken =
+        let one : 1 + position_or_len feed more ≡ suc (position_or_len feed more) = omega arith in
+        rw (e, one) (ap (λ (l : List ℕ). byte ∷ l) taken)
 
-pub unbroken_feed : {rest : List ℕ} {at : ℕ} → at < length rest → eqb (get_or rest at 0) 10 ≡ true → Unbroken rest at
-    → take at rest ≡ to_feed rest
-unfolding to_feed
-unbroken_feed {rest} {at} below feed u = sym (append-nil (take at rest)) ∙ go ∙ u.is
-  where
-    go : take at rest ++ [] ≡ take at rest ++ to_feed (drop at rest)
-    go = rw (drop-cons rest at 0 below, feed)
+module _ (rest : List ℕ) {found : Option ℕ}
+    (is : found ≡ cond (ltb (position_or_len feed rest) (length rest)) (Some (position_or_len feed rest)) None) where
+  pub feed_found : {at : ℕ} → found ≡ Some at → take at rest ≡ to_feed rest
+  feed_found {at} some = go (ltb (position_or_len feed rest) (length rest)) (sym is ∙ some)
+    where
+      go : (t : Bool) → cond t (Some (position_or_len feed rest)) None ≡ Some at → take at rest ≡ to_feed rest
+      go true e = let same : position_or_len feed rest ≡ at = cc in rw (← same) (feed_taken rest)
+      go false e = absurd (let z : ◌≡◌ {A = ℕ} 0 1 = cc in omega arith)
 
-pub unbroken_all : {rest : List ℕ} {at : ℕ} → length rest ≤ at → Unbroken rest at → rest ≡ to_feed rest
-unfolding to_feed
-unbroken_all {rest} {at} past u = sym (append-nil rest) ∙ go ∙ u.is
-  where
-    go : rest ++ [] ≡ take at rest ++ to_feed (drop at rest)
-    go = rw (drop_of_length-le rest past, take_all at rest past)
+  pub feed_missed : found ≡ None → rest ≡ to_feed rest
+  feed_missed none = go (ltb (position_or_len feed rest) (length rest)) refl (sym is ∙ none)
+    where
+      go : (t : Bool)
+          → ltb (position_or_len feed rest) (length rest) ≡ t
+          → cond t (Some (position_or_len feed rest)) None ≡ None
+          → rest ≡ to_feed rest
+      go true long e = absurd (let z : ◌≡◌ {A = ℕ} 0 1 = cc in omega arith)
+      go false long e =
+          sym (take_all (position_or_len feed rest) rest (ltb-false _ _ long)) ∙ feed_taken rest
 
 -- the line of a place, from the rest of the text on where it starts
 pub rest_line : (sheet : List ℕ) (place : ℕ) {p : Position}
@@ -133,25 +141,25 @@ rest_line sheet place {p} is =
 -- ---- what is added
 
 -- line and column of a place
-pub adds_place : {out o₁ o₂ o₃ end : List ℕ} {at n₁ n₂ n₃ last : ℕ} (sheet : List ℕ) (place : ℕ) {p : Position} (before : ℕ)
+pub added_place : {page p₁ p₂ p₃ end : Page} (sheet : List ℕ) (place : ℕ) {p : Position} (before : ℕ)
     → p ≡ position_of sheet place
     → before ≡ before_of sheet place
-    → Adds out o₁ at n₁ (text " line")
-    → Adds o₁ o₂ n₁ n₂ (spaced p.line)
-    → Adds o₂ o₃ n₂ n₃ (text " column")
-    → Adds o₃ end n₃ last (spaced (before + 1))
-    → Adds out end at last (place_text sheet place)
+    → Added page p₁ (text " line")
+    → Added p₁ p₂ (spaced p.line)
+    → Added p₂ p₃ (text " column")
+    → Added p₃ end (spaced (before + 1))
+    → Added page end (place_text sheet place)
 unfolding place_text
-adds_place sheet place before is many a b c d = rw (is, many) at (adds_then (adds_then (adds_then a b) c) d)
+added_place sheet place before is many a b c d = rw (is, many) at (added_then (added_then (added_then a b) c) d)
 
 -- the line of a place, with the mark
-pub adds_mark : {out o₁ o₂ o₃ end : List ℕ} {at n₁ n₂ n₃ last : ℕ} (sheet : List ℕ) (place : ℕ) {line : List ℕ} (before : ℕ)
+pub added_mark : {page p₁ p₂ p₃ end : Page} (sheet : List ℕ) (place : ℕ) {line : List ℕ} (before : ℕ)
     → line ≡ line_text sheet place
     → before ≡ before_of sheet place
-    → Adds out o₁ at n₁ line
-    → Adds o₁ o₂ n₁ n₂ line_feed
-    → Adds o₂ o₃ n₂ n₃ (spaces before)
-    → Adds o₃ end n₃ last (text "^\n")
-    → Adds out end at last (mark_lines sheet place)
+    → Added page p₁ line
+    → Added p₁ p₂ line_feed
+    → Added p₂ p₃ (spaces before)
+    → Added p₃ end (text "^\n")
+    → Added page end (mark_lines sheet place)
 unfolding mark_lines
-adds_mark sheet place before is many a b c d = rw (is, many) at (adds_then (adds_then (adds_then a b) c) d)
+added_mark sheet place before is many a b c d = rw (is, many) at (added_then (added_then (added_then a b) c) d)

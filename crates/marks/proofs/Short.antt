@@ -1,13 +1,12 @@
 -- How long the words of a place and its marked line are.
-use Prim.Native.Nat.{ℕ, zero, suc, ◌+◌, ◌*◌, ◌-◌, ◌≤◌, ◌<◌}
+use Prim.Native.Nat.{ℕ, suc, ◌+◌, ◌*◌, ◌≤◌, ◌<◌}
 use native.Mathlib.Omega.{arith}
-use mathlib.Core.Path.{◌≡◌, refl}
 use mathlib.Core.Bool.{Bool, true, false, cond}
-use mathlib.Core.List.{List, [], ◌∷◌, ◌++◌}
+use mathlib.Core.List.{List, [], ◌∷◌}
 use lib.Dec.{eqb}
 use lib.ListN.{length, take, drop, length-append, length-drop, length-replicate}
-use Rattle.lines.specs.Lines.{spaced}
-use Rattle.lines.proofs.Laws.{digits_short}
+use Rattle.prints.specs.Digits.{spaced}
+use Rattle.prints.proofs.Digits.{digits_short}
 use Rattle.marks.specs.declared.Position.{Position}
 use Rattle.marks.specs.Marks.{position, behind, position_of, before_of, line_of, column_of, place_text, to_feed, line_text, mark_lines}
 use Rattle.marks.proofs.Laws.{front_short}

@@ -1,7 +1,8 @@
 -- Where a byte of a text stands: its line and its column, both counted from 1; the line, and a mark under the byte.
-use Rattle.std.specs.Prelude.{ℕ, suc, ◌+◌, ◌-◌, cond, List, [], ◌∷◌, ◌++◌, eqb, length, take, drop}
+use Rattle.std.specs.Prelude.{ℕ, ◌+◌, ◌-◌, cond, List, [], ◌∷◌, ◌++◌, eqb, length, take, drop}
 use Rattle.lines.specs.Text.{text}
-use Rattle.lines.specs.Lines.{spaced, line_feed}
+use Rattle.prints.specs.Digits.{spaced}
+use Rattle.lines.specs.Lines.{line_feed}
 use Rattle.prints.specs.Prints.{spaces}
 use Rattle.marks.specs.declared.Position.{Position}
 

@@ -1,40 +1,40 @@
 -- The bytes that the moves write: sections laid one behind the other into zeros are a book's bytes, with names or without.
-use mathlib.Core.Path.{◌≡◌, sym, ap, ◌∙◌}
+use borrow.Rule.Slice.PartMut.{put_mid}
+use mathlib.Core.Path.{◌≡◌, refl, sym, ap, ◌∙◌}
 use mathlib.Core.Bool.{true}
-use mathlib.Core.List.{List, [], ◌∷◌, ◌++◌}
+use mathlib.Core.List.{List, [], ◌++◌, append-nil}
 use Prim.Native.Nat.{ℕ, ◌+◌, ◌*◌, ◌≤◌}
 use native.Mathlib.Omega.{arith}
-use lib.ListN.{length, take, drop, length-append, length-drop}
-use lib.Seq.{sets, take_at}
+use lib.ListN.{length, take, drop, length-append, length-drop, length-replicate}
+use lib.Seq.{sets, length-sets, take_at}
 use Rattle.words.specs.Lists.{part_at}
 use Rattle.words.specs.Words.{word_bytes, Below, zeros}
-use Rattle.words.proofs.Bytes.{length_words, words_append}
-use Rattle.words.proofs.Stored.{sets_then, sets-zeros}
-use Rattle.forms.specs.Forms.{contents_of}
+use Rattle.words.proofs.Bytes.{length_words}
+use Rattle.words.proofs.Stored.{sets_then, sets-zeros, copied_whole}
+use Rattle.forms.specs.Forms.{contents_size, contents_of}
+use Rattle.forms.proofs.Contents.{length_contents}
 use Rattle.names.specs.Names.{HOUSE-NAMES, name_at, names_bytes}
 use Rattle.names.proofs.Standing.{Standing, names_stand, fewer_stand, names_short, names_within, names_all}
 use Rattle.written.specs.Written.{with_zeros}
 use Rattle.book.specs.Book.{Book}
 use Rattle.book.specs.Encode.{body_words, book_bytes, named_bytes}
-use Rattle.book.specs.Form.{DONE, book_sections, named_sections, settings_at, form_of, book_of}
+use Rattle.book.specs.Form.{DONE, book_sections, named_sections, settings_at, names_at, form_of, book_of}
 use Rattle.book.proofs.Decoded.{formed, well_formed}
 use Rattle.book.proofs.Holding.{body_long, holding_parts}
 use Rattle.book.proofs.Rebuilt.{body_part}
-use Rattle.moves.specs.Moves.{house_good, house_names, named_of, plain_of, NamedRoom, PlainRoom}
+use Rattle.moves.specs.Moves.{house_good, house_names, named_of, plain_of, laid_of}
 
 -- two parts, and three, laid one behind the other into zeros
-two_laid : (out first second : List ℕ) (at : ℕ) → out ≡ zeros (length out) → at ≡ length first → length (first ++ second) ≤ length out
-    → sets (sets out 0 first) at second ≡ with_zeros (first ++ second) (length out)
-two_laid out first second at clear at_is fits =
-    sets_then out 0 first at second (omega arith)
-    ∙ ap (λ (l : List ℕ). sets l 0 (first ++ second)) clear
-    ∙ sets-zeros (length out) (first ++ second) fits
+two_laid : (room : ℕ) (first second : List ℕ) (at : ℕ) → at ≡ length first → length (first ++ second) ≤ room
+    → sets (sets (zeros room) 0 first) at second ≡ with_zeros (first ++ second) room
+two_laid room first second at at_is fits =
+    sets_then (zeros room) 0 first at second (omega arith) ∙ sets-zeros room (first ++ second) fits
 
-three_laid : (out first second third : List ℕ) (at next : ℕ) → out ≡ zeros (length out) → at ≡ length first → next ≡ at + length second
-    → length (first ++ (second ++ third)) ≤ length out
-    → sets (sets (sets out 0 first) at second) next third ≡ with_zeros (first ++ (second ++ third)) (length out)
-three_laid out first second third at next clear at_is next-is fits =
-    sets_then (sets out 0 first) at second next third next-is ∙ two_laid out first (second ++ third) at clear at_is fits
+three_laid : (room : ℕ) (first second third : List ℕ) (at next : ℕ) → at ≡ length first → next ≡ at + length second
+    → length (first ++ (second ++ third)) ≤ room
+    → sets (sets (sets (zeros room) 0 first) at second) next third ≡ with_zeros (first ++ (second ++ third)) room
+three_laid room first second third at next at_is next-is fits =
+    sets_then (sets (zeros room) 0 first) at second next third next-is ∙ two_laid room first (second ++ third) at at_is fits
 
 module _ (bytes : List ℕ) (done : (form_of bytes).number ≡ DONE) where
   abbrev book : Book
@@ -53,49 +53,64 @@ module _ (bytes : List ℕ) (done : (form_of bytes).number ≡ DONE) where
   pub few_kinds : kinds ≤ 64
   few_kinds = (well_formed (formed bytes done)).few_kinds
 
+  pub names_within_book : names_at bytes ≤ length bytes
+  names_within_book = (formed bytes done).size.within
+
   pub body_within : settings_at bytes + (4 + 6 * count) ≤ length bytes
   unfolding book_of
   body_within = omega (arith, (formed bytes done).size.within)
 
-  body_is : Below 256 bytes → part_at bytes (settings_at bytes) (4 + 6 * count) ≡ word_bytes (body_words book)
+  pub body_is : Below 256 bytes → part_at bytes (settings_at bytes) (4 + 6 * count) ≡ word_bytes (body_words book)
   body_is below = body_part bytes (formed bytes done) below
 
   abbrev body : List ℕ
   body = word_bytes (body_words book)
 
-  body_size : length body ≡ 4 + 6 * count
+  pub body_size : length body ≡ 4 + 6 * count
   body_size = omega (arith, length_words (body_words book), body_long book)
 
-  -- the book without names
-  abbrev plain_contents : List ℕ
-  plain_contents = word_bytes (contents_of (book_sections count))
+  -- the book with sections of these sizes, and what follows: its parts, its size, and how it is laid into zeros
+  module _ (sizes rest : List ℕ) where
+    abbrev contents : List ℕ
+    contents = word_bytes (contents_of sizes)
 
-  plain_size : length plain_contents ≡ 14
-  plain_size = length_words (contents_of (book_sections count))
+    contents_long : length contents ≡ contents_size (length sizes)
+    contents_long = length_words (contents_of sizes) ∙ length_contents sizes
 
-  plain_parts : plain_of bytes ≡ plain_contents ++ body
+    laid_parts : laid_of bytes sizes rest ≡ contents ++ (body ++ rest)
+    laid_parts = holding_parts sizes book rest
+
+    pub laid_long : length (laid_of bytes sizes rest) ≡ contents_size (length sizes) + 4 + 6 * count + length rest
+    laid_long =
+        ap length laid_parts
+        ∙ length-append contents (body ++ rest)
+        ∙ omega (arith, contents_long, length-append body rest, body_size)
+
+    pub book_laid : (room : ℕ) {at end k j : ℕ} {clear first part second other : List ℕ} → clear ≡ zeros room
+        → at ≡ contents_size (length sizes) → end ≡ at + length body → end + length rest ≤ room → k ≡ length body → j ≡ length rest
+        → first ≡ sets clear 0 contents → part ≡ body → second ≡ put_mid at k first part → other ≡ rest
+        → put_mid end j second other ≡ with_zeros (laid_of bytes sizes rest) room
+    book_laid room {at} {end} {k} {j} {first = first} {second = second} is at_is end_is fits k_is j_is first_is part_is second_is other_is =
+        (λ i. put_mid end j (second_laid i) (other_is i))
+        ∙ copied_whole _ end j rest j_is (omega (arith, fits, j_is, length-sets (sets (zeros room) 0 contents) at body, long))
+        ∙ three_laid room contents body rest at end (at_is ∙ sym contents_long) end_is
+        (omega (arith, fits, end_is, at_is, ap length laid_parts, laid_long, body_size))
+        ∙ ap (λ (l : List ℕ). with_zeros l room) (sym laid_parts)
+      where
+        long : length (sets (zeros room) 0 contents) ≡ room
+        long = length-sets (zeros room) 0 contents ∙ length-replicate room 0
+
+        first_laid : first ≡ sets (zeros room) 0 contents
+        first_laid = first_is ∙ ap (λ (l : List ℕ). sets l 0 contents) is
+
+        second_laid : second ≡ sets (sets (zeros room) 0 contents) at body
+        second_laid =
+            second_is ∙ (λ i. put_mid at k (first_laid i) (part_is i))
+            ∙ copied_whole _ at k body k_is (omega (arith, fits, end_is, k_is, long))
+
+  pub plain_laid : laid_of bytes (book_sections count) [] ≡ plain_of bytes
   unfolding book_bytes
-  plain_parts = words_append (contents_of (book_sections count)) (body_words book)
-
-  pub plain_long : length (plain_of bytes) ≡ 18 + 6 * count
-  plain_long = ap length plain_parts ∙ length-append plain_contents body ∙ omega (arith, plain_size, body_size)
-
-  pub plain_laid : {out : List ℕ} → PlainRoom bytes out → Below 256 bytes
-      → {nodes at settings : ℕ} {first second : List ℕ} → nodes ≡ 6 * count → at ≡ 14 → settings ≡ settings_at bytes
-      → first ≡ sets out 0 (word_bytes (contents_of (4 ∷ nodes ∷ [])))
-      → second ≡ sets first at (part_at bytes settings (4 + nodes))
-      → second ≡ with_zeros (plain_of bytes) (length out)
-  plain_laid {out} room below {nodes} {at} {settings} {first} nodes_are at_is settings-are contents-laid body-laid =
-      body-laid
-      ∙ (λ i. sets (laid i) at (part i))
-      ∙ two_laid out plain_contents body at room.clear (omega (arith, plain_size)) (rw (← plain_parts) room.fits)
-      ∙ ap (λ (l : List ℕ). with_zeros l (length out)) (sym plain_parts)
-    where
-      laid : first ≡ sets out 0 plain_contents
-      laid = contents-laid ∙ ap (λ (n : ℕ). sets out 0 (word_bytes (contents_of (4 ∷ n ∷ [])))) nodes_are
-
-      part : part_at bytes settings (4 + nodes) ≡ body
-      part = (λ i. part_at bytes (settings-are i) (4 + nodes_are i)) ∙ body_is below
+  plain_laid = append-nil _
 
   module _ (house : List ℕ) (good : house_good house ≡ true) where
     -- the first names of a good house list
@@ -126,44 +141,6 @@ module _ (bytes : List ℕ) (done : (form_of bytes).number ≡ DONE) where
     names_part = ap (take end) house_splits ∙ take_at (names_bytes names) (drop end house) end names_size
 
     -- the book with them
-    abbrev named_contents : ℕ → List ℕ
-    named_contents size = word_bytes (contents_of (named_sections count size))
-
-    named-size : (size : ℕ) → length (named_contents size) ≡ 20
-    named-size size = length_words (contents_of (named_sections count size))
-
-    named_parts : named_of bytes house ≡ named_contents end ++ (body ++ names_bytes names)
+    pub named_laid : laid_of bytes (named_sections count (length (names_bytes names))) (names_bytes names) ≡ named_of bytes house
     unfolding named_bytes
-    named_parts =
-        holding_parts (named_sections count (length (names_bytes names))) book (names_bytes names)
-        ∙ ap (λ (n : ℕ). named_contents n ++ (body ++ names_bytes names)) names_size
-
-    pub named_long : length (named_of bytes house) ≡ 24 + 6 * count + end
-    named_long =
-        ap length named_parts
-        ∙ length-append (named_contents end) (body ++ names_bytes names)
-        ∙ omega (arith, named-size end, length-append body (names_bytes names), body_size, names_size)
-
-    pub named_laid : {out : List ℕ} {size : ℕ} → NamedRoom bytes house size out → Below 256 bytes
-        → {nodes at settings next : ℕ} {first second third : List ℕ}
-        → nodes ≡ 6 * count → at ≡ 20 → settings ≡ settings_at bytes → next ≡ at + 4 + nodes
-        → first ≡ sets out 0 (word_bytes (contents_of (4 ∷ nodes ∷ size ∷ [])))
-        → second ≡ sets first at (part_at bytes settings (4 + nodes))
-        → third ≡ sets second next (part_at house 0 size)
-        → third ≡ with_zeros (named_of bytes house) (length out)
-    named_laid {out} {size} room below {nodes} {at} {settings} {next} {first} {second}
-        nodes_are at_is settings-are next-is contents-laid body-laid names-laid =
-        names-laid
-        ∙ (λ i. sets (laid_second i) next (part i))
-        ∙ three_laid out (named_contents end) body (names_bytes names) at next room.clear (omega (arith, named-size end))
-        (omega (arith, body_size)) (rw (← named_parts) room.fits)
-        ∙ ap (λ (l : List ℕ). with_zeros l (length out)) (sym named_parts)
-      where
-        laid_first : first ≡ sets out 0 (named_contents end)
-        laid_first = contents-laid ∙ (λ i. sets out 0 (word_bytes (contents_of (4 ∷ nodes_are i ∷ room.end_is i ∷ []))))
-
-        laid_second : second ≡ sets (sets out 0 (named_contents end)) at body
-        laid_second = body-laid ∙ (λ i. sets (laid_first i) at (((λ j. part_at bytes (settings-are j) (4 + nodes_are j)) ∙ body_is below) i))
-
-        part : part_at house 0 size ≡ names_bytes names
-        part = ap (part_at house 0) room.end_is ∙ names_part
+    named_laid = refl

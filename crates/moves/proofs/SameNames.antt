@@ -1,20 +1,21 @@
 -- Names that are the same, by their bytes: a book's names and the first of the house list.
 use mathlib.Core.Path.{◌≡◌, refl, sym, ap, subst, ◌∙◌}
-use mathlib.Core.Bool.{Bool, true, false}
+use mathlib.Core.Bool.{Bool, true, false, not}
 use mathlib.Core.List.{List, [], ◌∷◌, ◌++◌, append-nil}
 use Prim.Native.Nat.{ℕ, ◌-◌}
 use native.Mathlib.Omega.{arith}
 use lib.ListN.{length, take, drop, length-drop}
 use lib.Seq.{take_at, drop_at, take_all, drop-length}
-use Rattle.words.specs.Lists.{part_at, same}
-use Rattle.words.proofs.Same.{same_is, is_same}
+use lib.Dec.{eqb}
+use Rattle.std.specs.Cmp.Lexicographic.{pointwise}
+use Rattle.words.specs.Lists.{same}
+use Rattle.words.proofs.Same.{same_is, is_same, same_told}
 use Rattle.words.proofs.Tests.{both, joined, never, fails}
-use Rattle.names.specs.Names.{name_at, names_bytes}
+use Rattle.names.specs.Names.{names_bytes}
 use Rattle.names.proofs.Standing.{names_stand, names_end, names_all}
 use Rattle.book.specs.Form.{DONE, named, names_at, kinds_of, form_of, book_of, book_names}
 use Rattle.book.proofs.Decoded.{formed}
-use Rattle.moves.specs.Moves.{house_good, house_names, same_names}
-use Rattle.moves.proofs.Laid.{names_part, names_size}
+use Rattle.moves.specs.Moves.{house_names, same_names}
 
 -- lists of names that are the same are equal, and equal lists are the same
 pub same_names_are : (xs ys : List (List ℕ)) → same_names xs ys ≡ true → xs ≡ ys
@@ -72,34 +73,16 @@ module _ (bytes : List ℕ) (done : (form_of bytes).number ≡ DONE) (has : name
       names_all bytes (names_at bytes) (names_stand bytes (names_at bytes) (kinds_of bytes) good)
       ∙ rw (names_end bytes (names_at bytes) (kinds_of bytes) good, drop-length) (append-nil _)
 
-  module _ (house : List ℕ) (good : house_good house ≡ true) where
-    abbrev first_names : List (List ℕ)
-    first_names = house_names house (book_of bytes).kinds
-
-    -- names of other sizes differ
-    pub other_sizes : {from size : ℕ} → from ≡ names_at bytes → size ≡ name_at house 0 (book_of bytes).kinds
-        → (length bytes - from ≡ size → ⊥) → same_names (book_names bytes) first_names ≡ false
-    other_sizes from_is size_is differ =
-        fails _
-        (λ test.
-        differ
-        (ap (λ (n : ℕ). length bytes - n) from_is
-        ∙ sym (length-drop (names_at bytes) bytes)
-        ∙ ap length (names_behind ∙ ap names_bytes (same_names_are _ _ test))
-        ∙ names_size bytes done house good
-        ∙ sym size_is))
-
-    -- names of the same size are the same by their bytes
-    pub by_bytes : {from size : ℕ} → from ≡ names_at bytes → size ≡ name_at house 0 (book_of bytes).kinds
-        → length bytes - from ≡ size → same (part_at bytes from size) (part_at house 0 size) ≡ same_names (book_names bytes) first_names
-    by_bytes {from} {size} from_is size_is alike =
-        (λ i. same (book-part i) (house_part i)) ∙ bytes_tell (book_names bytes) first_names
-      where
-        book-part : part_at bytes from size ≡ names_bytes (book_names bytes)
-        book-part =
-            take_all size (drop from bytes) (omega (arith, length-drop from bytes))
-            ∙ ap (λ (n : ℕ). drop n bytes) from_is
-            ∙ names_behind
-
-        house_part : part_at house 0 size ≡ names_bytes first_names
-        house_part = ap (part_at house 0) size_is ∙ names_part bytes done house good
+  -- what comparing what stands there with the first names of the house list says
+  pub others_told : (house : List ℕ) {from : ℕ} {others : List ℕ} {test : Bool} → from ≡ names_at bytes
+      → others ≡ names_bytes (house_names house (book_of bytes).kinds)
+      → test ≡ not (pointwise eqb (take (length bytes - from) (drop from bytes)) others)
+      → test ≡ not (same_names (book_names bytes) (house_names house (book_of bytes).kinds))
+  others_told house {from} from_is others-are is =
+      is
+      ∙ ap not
+      ((λ i. pointwise eqb (behind i) (others-are i)) ∙ same_told _ _ refl
+      ∙ bytes_tell (book_names bytes) (house_names house (book_of bytes).kinds))
+    where
+      behind : take (length bytes - from) (drop from bytes) ≡ names_bytes (book_names bytes)
+      behind = take_all (length bytes - from) (drop from bytes) (omega (arith, length-drop from bytes)) ∙ ap (λ (n : ℕ). drop n bytes) from_is ∙ names_behind

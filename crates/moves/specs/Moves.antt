@@ -1,11 +1,12 @@
 -- Moving a book to the form with names, and back.
-use Rattle.std.specs.Prelude.{ℕ, ◌≤◌, ◌≡◌, Bool, not, ◌&&◌, ◌||◌, true, false, cond, List, [], ◌∷◌, eqb, length}
-use Rattle.words.specs.Words.{zeros}
+use Rattle.std.specs.Prelude.{ℕ, Bool, not, ◌&&◌, ◌||◌, true, false, cond, List, [], ◌∷◌, ◌++◌, eqb}
+use Rattle.words.specs.Words.{word_bytes}
 use Rattle.words.specs.Lists.{same}
-use Rattle.names.specs.Names.{NAMES, HOUSE-NAMES, name_at, first_bad_name, names_good, names_of}
+use Rattle.forms.specs.Forms.{contents_of}
+use Rattle.names.specs.Names.{NAMES, HOUSE-NAMES, first_bad_name, names_good, names_of}
 use Rattle.written.specs.Written.{Out, refused_with, handed}
 use Rattle.book.specs.Form.{DONE, LENGTH, CONTENTS, judged, named, form_of, book_of, book_names}
-use Rattle.book.specs.Encode.{book_bytes, named_bytes}
+use Rattle.book.specs.Encode.{body_words, book_bytes, named_bytes}
 use Rattle.book.specs.declared.Judged.{Judged}
 
 -- number 20
@@ -15,6 +16,10 @@ KEPT = 20
 -- the form of a book in a call that takes its own form only: a book of the other is 2, unless it is 1 by its length
 abbrev pub own_form : Bool → List ℕ → Judged
 own_form own bytes = cond (own || eqb (form_of bytes).number LENGTH) (form_of bytes) (judged CONTENTS 0)
+
+-- whether a book is of a call's own form: with names, or without them
+abbrev pub is_own : Bool → List ℕ → Bool
+is_own with bytes = cond with (named bytes) (not (named bytes))
 
 -- the house list is 64 good names and nothing else
 abbrev pub house_good : List ℕ → Bool
@@ -30,6 +35,10 @@ named_of bytes house = named_bytes (book_of bytes) (house_names house (book_of b
 
 abbrev pub plain_of : List ℕ → List ℕ
 plain_of bytes = book_bytes (book_of bytes)
+
+-- a book's bytes with sections of these sizes, and what follows its nodes
+abbrev pub laid_of : List ℕ → List ℕ → List ℕ → List ℕ
+laid_of bytes sizes rest = word_bytes (contents_of sizes ++ body_words (book_of bytes)) ++ rest
 
 -- what follows where a book is of a call's own form and the house list is good; else the refusal of 1 to 4 or 19
 unfoldable pub after_forms : Judged → List ℕ → Out → ℕ → Out
@@ -58,16 +67,3 @@ back_of bytes house room =
     (handed (plain_of bytes) room)
     (refused_with KEPT 0 room))
     room
-
--- what the writers of these bytes are called with: a book of good form, where the names end, room in a clear buffer
-pub record NamedRoom (bytes house : List ℕ) (end : ℕ) (out : List ℕ) : Type 0 where
-  pub form : (form_of bytes).number ≡ DONE
-  pub house_good : house_good house ≡ true
-  pub end_is : end ≡ name_at house 0 (book_of bytes).kinds
-  pub fits : length (named_of bytes house) ≤ length out
-  pub clear : out ≡ zeros (length out)
-
-pub record PlainRoom (bytes out : List ℕ) : Type 0 where
-  pub form : (form_of bytes).number ≡ DONE
-  pub fits : length (plain_of bytes) ≤ length out
-  pub clear : out ≡ zeros (length out)

@@ -2,18 +2,23 @@
 use mathlib.Core.Path.{◌≡◌, refl, sym, ap, ◌∙◌}
 use mathlib.Core.Bool.{Bool, true, false, not, ◌&&◌}
 use mathlib.Core.List.{List}
-use Prim.Native.Nat.{ℕ, zero, suc, ◌+◌, ◌≤◌, ◌<◌}
+use Prim.Native.Nat.{ℕ, zero, suc, ◌+◌, ◌-◌, ◌≤◌, ◌<◌}
 use native.Mathlib.Decide.{ℕ_discrete}
 use native.Mathlib.Nat.{le_of_eq}
 use native.Mathlib.Numerals.{add-one}
 use native.Mathlib.Omega.{arith}
 use borrow.Author.Tests.{leb-true, le-leb, lt-leb}
 use lib.Dec.{leb, eqb}
-use lib.ListN.{length, get_or, get_or-eq_default}
+use lib.ListN.{length, get_or, take, drop, get_or-eq_default}
 use Rattle.words.specs.Lists.{same}
-use Rattle.words.proofs.Same.{length_part, same_is}
+use Rattle.words.proofs.Same.{length_part}
 use Rattle.words.proofs.Tests.{both, joined, fails}
 use Rattle.names.specs.Names.{visible, all_visible, past_name, name_from, whole_at, name_at, name_of, name_new, name_good, first_bad_name, names_good}
+
+-- the bytes of a name, by the places between which they lie
+pub name_between : (bytes : List ℕ) (at : ℕ) {past : ℕ} → past ≡ past_name bytes at
+    → take (past - (at + 1)) (drop (at + 1) bytes) ≡ name_from bytes at
+name_between bytes at is = ap (λ (n : ℕ). take n (drop (at + 1) bytes)) (omega (arith, is))
 
 -- what the tests of a whole name have shown
 pub record Whole (bytes : List ℕ) (at : ℕ) : Type 0 where
@@ -75,29 +80,9 @@ module _ (bytes : List ℕ) (base : ℕ) where
   pub at_next : (n : ℕ) {at next : ℕ} → at ≡ name_at bytes base n → next ≡ past_name bytes at → next ≡ name_at bytes base (n + 1)
   at_next n here is = is ∙ ap (past_name bytes) here ∙ sym (rw add-one (name_next n))
 
--- names of different lengths differ
-pub sizes-differ : (bytes : List ℕ) (one other : ℕ) → past_name bytes one ≤ length bytes → past_name bytes other ≤ length bytes
-    → (get_or bytes one 0 ≡ get_or bytes other 0 → ⊥) → same (name_from bytes one) (name_from bytes other) ≡ false
-sizes-differ bytes one other within other-within differ =
-    fails _ (λ alike. differ (sym (length_name bytes one within) ∙ ap length (same_is _ _ alike) ∙ length_name bytes other other-within))
-
--- a byte that may stand in a name, and one that may not
-module _ {byte read : ℕ} (is : read ≡ byte) where
-  pub too_low : read < 33 → visible byte ≡ false
-  too_low low = rw (lt-leb 33 byte (omega arith))
-
-  pub too_high : 126 < read → visible byte ≡ false
-  too_high high = fails _ (λ good. omega (arith, leb-true byte 126 (both (leb 33 byte) _ good).1))
-
-  pub is_visible : 33 ≤ read → read ≤ 126 → visible byte ≡ true
-  is_visible least most = joined _ _ (le-leb 33 byte (omega arith)) (le-leb byte 126 (omega arith))
-
--- a name whose length byte is too low, or too high, is not whole
-pub none_short : (bytes : List ℕ) (at : ℕ) → get_or bytes at 0 < 1 → whole_at bytes at ≡ false
-none_short bytes at short = not_whole bytes at (λ w. omega (arith, w.some_byte, short))
-
-pub none_long : (bytes : List ℕ) (at : ℕ) → 16 < get_or bytes at 0 → whole_at bytes at ≡ false
-none_long bytes at long = not_whole bytes at (λ w. omega (arith, w.few_bytes, long))
+-- a byte that may stand in a name
+pub is_visible : {byte read : ℕ} → read ≡ byte → 33 ≤ read → read ≤ 126 → visible byte ≡ true
+is_visible {byte} is least most = joined _ _ (le-leb 33 byte (omega arith)) (le-leb byte 126 (omega arith))
 
 -- a whole name, by the tests of its bytes
 pub whole_by : (bytes : List ℕ) (at : ℕ) {size : ℕ} {all : Bool} → size ≡ get_or bytes at 0 → 1 ≤ size → size ≤ 16

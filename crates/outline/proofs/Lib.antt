@@ -1,6 +1,7 @@
+pub mod Handing
 pub mod Counting
-pub mod Factors
 pub mod Filling
-pub mod Rules
+pub mod Factors
 pub mod Sequences
+pub mod Rules
 pub mod Sheets

@@ -1,47 +1,61 @@
 // Reading a sheet: its expression, sequence and factor readers, its rules, and the nodes as they come.
 #![tactic(auto)]
 
-ghost use Rattle.std.specs.Prelude.{◌≡◌, false, cond, [], ◌∷◌, ◌-◌, ◌≤◌, ◌<◌, eqb, length};
+ghost use Rattle.std.specs.Prelude.{◌≡◌, false, cond, [], ◌∷◌, ◌-◌, ◌≤◌, ◌<◌, eqb, length, MatchResult};
 ghost use Rattle.sheets.specs.Text.{same, empty_word};
+ghost use Rattle.book.specs.declared.Node.TheVariants.{Empty, Token};
 ghost use Rattle.spelling.specs.Places.{byte_at, letters_at, Fresh};
-ghost use Rattle.outline.specs.Parts.{Laid, raw_star, wrong_at, Joined, NameRead};
-ghost use Rattle.outline.specs.Parts.{WordRead, Shut, Starred, EndedAs, Finished};
-ghost use Rattle.outline.specs.Parts.{FactorRead, SequenceRead, ExpressionRead};
-ghost use Rattle.outline.specs.Outlined.{RuleReadAs, OutlinedAs};
+ghost use Rattle.outline.specs.Raw.{raw, raw_star};
+ghost use Rattle.outline.specs.Parts.{Laid, Joined, NameDone, NameWrong, WordDone, WordWrong};
+ghost use Rattle.outline.specs.Parts.{Shut, ShutWrong, Starred, Finished, FinishedWrong};
+ghost use Rattle.outline.specs.Parts.{FactorDone, FactorWrong, SequenceDone, SequenceWrong, ExpressionDone, ExpressionWrong};
+ghost use Rattle.outline.specs.Outlined.{RuleDone, RuleWrong, OutlinedAs, NoOutline};
 
-use spelling::{begins_factor, ends_expression, is_empty, letters_end, look, skip_blanks};
+use book::Node;
+use spelling::{begins_factor, ends_expression, is_empty, letters_end, skip_blanks, stands};
 
-// Where a reader has come to: whether the text is good so far; the place it has come to, or where it went wrong; how
-// many nodes there are then, 513 for more than 512; and where the part began.
+// A node as it is put down while the text is read, and the place of the text from which it comes. A word is put down as
+// a token of kind 0; which word it is, its place tells.
+#[derive(Clone, Copy)]
+pub struct RawNode {
+    pub node: Node,
+    pub place: usize,
+}
+
+// A rule as it is put down: the place of its name, and its last node.
+#[derive(Clone, Copy)]
+pub struct Row {
+    pub name: usize,
+    pub last: usize,
+}
+
+// Where a reader has come to: the place; how many nodes there are then, 513 for more than 512; where the part began.
 #[derive(Clone, Copy)]
 pub struct Cursor {
-    pub good: bool,
     pub at: usize,
     pub next: usize,
     pub from: usize,
 }
 
-// Where a rule's reader has come to, and the place of the rule's name.
-#[derive(Clone, Copy)]
-pub struct RuleRead {
-    pub good: bool,
-    pub at: usize,
-    pub next: usize,
-    pub name: usize,
+impl Cursor {
+    // The last node of the part.
+    fn last(self) -> usize
+        ensures { result ≡ self.next - 1 }
+    {
+        self.next.saturating_sub(1)
+    }
 }
 
-// What a sheet's reader has found: a sheet with so many nodes and rules, each 513 for more than 512; or the place where
-// it goes wrong or more is due.
+// A sheet with so many nodes and rules, each 513 for more than 512.
 #[derive(Clone, Copy)]
 pub struct Outline {
-    pub good: bool,
-    pub place: usize,
     pub nodes: usize,
     pub rules: usize,
 }
 
-// The most nodes of a book, and a count that is more than that.
-const MOST: usize = 512;
+// The most nodes of a book, and a count that is more than that, no refusal: a sheet of too many is read to its end all
+// the same, since a text that is no sheet is refused first (`Answers`), and `OutlinedAs` has both counts cut so.
+pub const MOST: usize = 512;
 
 const MANY: usize = 513;
 
@@ -51,159 +65,103 @@ const LETTERS: usize = 16;
 // How far parentheses nest.
 const NESTINGS: usize = 32;
 
-// A node's type.
-const EMPTY: usize = 1;
-
-const TOKEN: usize = 2;
-
-const EITHER: usize = 3;
-
-const THEN: usize = 4;
-
-const REF: usize = 6;
-
-// The type of the node of a word from a place to another.
-fn word_type(s: &[u8], from: usize, to: usize) -> usize
+// The node of a word from a place to another.
+fn word_node(s: &[u8], from: usize, to: usize) -> Node
     requires { (from ≤ to) × (to ≤ length s.now) }
-    ensures { result ≡ cond (same (letters_at s.now from to) empty_word) 1 2 }
+    ensures { result ≡ cond (same (letters_at s.now from to) empty_word) Empty (Token 0) }
 {
     if is_empty(s, from, to) {
-        return EMPTY;
+        return Node::Empty;
     }
-    TOKEN
+    Node::Token(0)
 }
 
-// The number so far back from another; 0 where it is not so far to 0.
-fn back(n: usize, by: usize) -> usize
-    ensures { result ≡ n - by }
+// Puts a node or a row down behind so many, where the buffer has room for it, and answers how many there are then.
+fn put<T: Copy>(list: &mut [T], n: usize, item: T) -> usize
+    ensures { Laid list.old n result (item ∷ []) list.new }
 {
-    if n < by {
-        return 0;
+    if n < list.len() {
+        list[n] = item;
     }
-    n - by
+    n.saturating_add(1).min(MANY)
 }
 
-// Puts a node down, where the buffer has room for it, and answers the next node's number.
-fn put_node(
-    nodes: &mut [usize],
-    n: usize,
-    of: usize,
-    left: usize,
-    right: usize,
-    place: usize,
-) -> usize
-    ensures { Laid 4 nodes.old n result 1 (of ∷ left ∷ right ∷ place ∷ []) nodes.new }
+// Puts a node that comes from a place down behind so many.
+fn put_node(nodes: &mut [RawNode], n: usize, node: Node, place: usize) -> usize
+    ensures { Laid nodes.old n result (raw node place ∷ []) nodes.new }
 {
-    if MOST <= n {
-        return MANY;
-    }
-    let at = 4 * n;
-    if nodes.len() < at + 4 {
-        return n + 1;
-    }
-    nodes[at] = of;
-    nodes[at + 1] = left;
-    nodes[at + 2] = right;
-    nodes[at + 3] = place;
-    n + 1
+    put(nodes, n, RawNode { node, place })
 }
 
-// Puts the four nodes of a star down, after the node that is starred, and answers the next node's number.
-fn put_star(nodes: &mut [usize], n: usize, place: usize) -> usize
-    ensures { Laid 4 nodes.old n result 4 (raw_star n place) nodes.new }
+// Puts the four nodes of a star down, after the node that is starred, and answers how many there are then.
+fn put_star(nodes: &mut [RawNode], n: usize, place: usize) -> usize
+    ensures { Laid nodes.old n result (raw_star n place) nodes.new }
 {
     if MOST <= n {
         return MANY;
     }
-    let then = put_node(nodes, n, REF, n + 3, 0, place);
-    let empty = put_node(nodes, then, THEN, back(n, 1), n, place);
-    let either = put_node(nodes, empty, EMPTY, 0, 0, place);
-    put_node(nodes, either, EITHER, n + 1, n + 2, place)
+    let then = put_node(nodes, n, Node::Ref(n + 3), place);
+    let empty = put_node(nodes, then, Node::Then(n.saturating_sub(1), n), place);
+    let either = put_node(nodes, empty, Node::Empty, place);
+    put_node(nodes, either, Node::Either(n + 1, n + 2), place)
 }
 
-// A text that is wrong at a place.
-fn wrong(place: usize) -> Cursor
-    ensures { result ≡ wrong_at place }
+// Joins a part and a further one by a node that comes from a place.
+fn join(nodes: &mut [RawNode], node: Node, place: usize, part: Cursor, further: Cursor) -> Cursor
+    ensures { Joined node place part further nodes.old result nodes.new }
 {
     Cursor {
-        good: false,
-        at: place,
-        next: 0,
-        from: place,
-    }
-}
-
-// Joins a part and a further one, which is read, by a node that comes from a place.
-fn join(nodes: &mut [usize], of: usize, place: usize, part: Cursor, further: Cursor) -> Cursor
-    ensures { Joined of place part further nodes.old result nodes.new }
-{
-    if !further.good {
-        return further;
-    }
-    let n = further.next;
-    let left = back(part.next, 1);
-    let next = put_node(nodes, n, of, left, back(n, 1), place);
-    Cursor {
-        good: true,
         at: further.at,
-        next: next,
+        next: put_node(nodes, further.next, node, place),
         from: part.from,
     }
 }
 
-// Reads a word or `empty`, where no blank and no parenthesis stands.
-fn word(s: &[u8], at: usize, nodes: &mut [usize], n: usize) -> Cursor
+// Reads a word or `empty`, where no blank and no parenthesis stands; the place where it goes wrong otherwise.
+fn word(s: &[u8], at: usize, nodes: &mut [RawNode], n: usize) -> Result<Cursor, usize>
     requires { (at ≤ length s.now) × (Fresh s.now at) × (eqb (byte_at s.now at) 40 ≡ false) }
-    ensures { WordRead s.now at nodes.old n result nodes.new }
+    ensures { MatchResult result
+        (λ read. WordDone s.now at nodes.old n read nodes.new)
+        (λ place. WordWrong s.now at nodes.old place nodes.new) }
 {
     let end = letters_end(s, at);
     if end == at {
-        return wrong(at);
+        return Err(at);
     }
     if LETTERS < end - at {
-        return wrong(at + LETTERS);
+        return Err(at + LETTERS);
     }
-    let next = put_node(nodes, n, word_type(s, at, end), 0, 0, at);
-    Cursor {
-        good: true,
+    let node = word_node(s, at, end);
+    Ok(Cursor {
         at: end,
-        next: next,
+        next: put_node(nodes, n, node, at),
         from: at,
-    }
+    })
 }
 
 // Goes on past the `)` of a parenthesis that stands at a place, after the expression within.
-fn shut(s: &[u8], place: usize, inner: Cursor) -> Cursor
+fn shut(s: &[u8], place: usize, inner: Cursor) -> Result<Cursor, usize>
     requires { inner.at ≤ length s.now }
-    ensures { Shut s.now place inner result }
+    ensures { MatchResult result (λ read. Shut s.now place inner read) (λ end. ShutWrong s.now place inner end) }
 {
-    if !inner.good {
-        return inner;
+    if !stands(s, inner.at, b')') {
+        return Err(inner.at);
     }
-    let end = inner.at;
-    if look(s, end) != 41 {
-        return wrong(end);
-    }
-    Cursor {
-        good: true,
-        at: end + 1,
+    Ok(Cursor {
+        at: inner.at + 1,
         next: inner.next,
         from: place,
-    }
+    })
 }
 
 // Goes on past a star, if there is one, and the blanks around it, after a factor without its star.
-fn star(s: &[u8], bare: Cursor, nodes: &mut [usize]) -> Cursor
+fn star(s: &[u8], bare: Cursor, nodes: &mut [RawNode]) -> Cursor
     requires { bare.at ≤ length s.now }
     ensures { Starred s.now bare nodes.old result nodes.new }
 {
-    if !bare.good {
-        return bare;
-    }
     let place = skip_blanks(s, bare.at);
-    if look(s, place) != 42 {
+    if !stands(s, place, b'*') {
         return Cursor {
-            good: true,
             at: place,
             next: bare.next,
             from: bare.from,
@@ -212,200 +170,159 @@ fn star(s: &[u8], bare: Cursor, nodes: &mut [usize]) -> Cursor
     let next = put_star(nodes, bare.next, place);
     let end = skip_blanks(s, place + 1);
     Cursor {
-        good: true,
         at: end,
-        next: next,
+        next,
         from: bare.from,
     }
 }
 
 // Reads a factor.
 #[cycle(expression_factor_sequence)]
-fn factor(s: &[u8], at: usize, depth: usize, nodes: &mut [usize], n: usize) -> Cursor
+fn factor(
+    s: &[u8],
+    at: usize,
+    depth: usize,
+    nodes: &mut [RawNode],
+    n: usize,
+) -> Result<Cursor, usize>
     requires { at ≤ length s.now }
-    ensures { FactorRead s.now at depth nodes.old n result nodes.new }
+    ensures { MatchResult result
+        (λ read. FactorDone s.now at depth nodes.old n read nodes.new)
+        (λ place. FactorWrong s.now at depth nodes.old place nodes.new) }
 {
     let place = skip_blanks(s, at);
-    if look(s, place) != 40 {
-        let bare = word(s, place, nodes, n);
-        return star(s, bare, nodes);
+    if !stands(s, place, b'(') {
+        let bare = word(s, place, nodes, n)?;
+        return Ok(star(s, bare, nodes));
     }
     if depth == 0 {
-        return wrong(place);
+        return Err(place);
     }
-    let inner = expression(s, place + 1, depth - 1, nodes, n);
-    let bare = shut(s, place, inner);
-    star(s, bare, nodes)
+    let inner = expression(s, place + 1, depth - 1, nodes, n)?;
+    let bare = shut(s, place, inner)?;
+    Ok(star(s, bare, nodes))
 }
 
 // Reads a sequence: a factor, and further ones.
 #[cycle(expression_factor_sequence)]
-fn sequence(s: &[u8], at: usize, depth: usize, nodes: &mut [usize], n: usize) -> Cursor
+fn sequence(
+    s: &[u8],
+    at: usize,
+    depth: usize,
+    nodes: &mut [RawNode],
+    n: usize,
+) -> Result<Cursor, usize>
     requires { at ≤ length s.now }
-    ensures { SequenceRead s.now at depth nodes.old n result nodes.new }
+    ensures { MatchResult result
+        (λ read. SequenceDone s.now at depth nodes.old n read nodes.new)
+        (λ place. SequenceWrong s.now at depth nodes.old place nodes.new) }
 {
-    let mut part = factor(s, at, depth, nodes, n);
-    loop {
-        if !part.good {
-            return part;
-        }
-        let next = part.at;
-        if !begins_factor(look(s, next)) {
-            return part;
-        }
-        let further = factor(s, next, depth, nodes, part.next);
-        part = join(nodes, THEN, further.from, part, further);
+    let mut part = factor(s, at, depth, nodes, n)?;
+    while begins_factor(s, part.at) {
+        let further = factor(s, part.at, depth, nodes, part.next)?;
+        let node = Node::Then(part.last(), further.last());
+        part = join(nodes, node, further.from, part, further);
     }
+    Ok(part)
 }
 
-// Goes on after sequences, where an expression has to end.
-fn ended(s: &[u8], part: Cursor) -> Cursor
-    requires { part.at ≤ length s.now }
-    ensures { EndedAs s.now part result }
-{
-    let end = part.at;
-    if ends_expression(look(s, end)) {
-        return part;
-    }
-    wrong(end)
-}
-
-// Reads an expression: a sequence, and further ones after `|`.
+// Reads an expression: a sequence, and further ones after `|`, up to where an expression ends.
 #[cycle(expression_factor_sequence)]
-fn expression(s: &[u8], at: usize, depth: usize, nodes: &mut [usize], n: usize) -> Cursor
+fn expression(
+    s: &[u8],
+    at: usize,
+    depth: usize,
+    nodes: &mut [RawNode],
+    n: usize,
+) -> Result<Cursor, usize>
     requires { at ≤ length s.now }
-    ensures { ExpressionRead s.now at depth nodes.old n result nodes.new }
+    ensures { MatchResult result
+        (λ read. ExpressionDone s.now at depth nodes.old n read nodes.new)
+        (λ place. ExpressionWrong s.now at depth nodes.old place nodes.new) }
 {
-    let mut part = sequence(s, at, depth, nodes, n);
-    loop {
-        if !part.good {
-            return part;
-        }
-        let place = part.at;
-        if look(s, place) != 124 {
-            return ended(s, part);
-        }
-        let further = sequence(s, place + 1, depth, nodes, part.next);
-        part = join(nodes, EITHER, place, part, further);
+    let mut part = sequence(s, at, depth, nodes, n)?;
+    while stands(s, part.at, b'|') {
+        let further = sequence(s, part.at + 1, depth, nodes, part.next)?;
+        let node = Node::Either(part.last(), further.last());
+        part = join(nodes, node, part.at, part, further);
     }
+    if !ends_expression(s, part.at) {
+        return Err(part.at);
+    }
+    Ok(part)
 }
 
-// Reads a rule's name, which stands at a place, and the `=` after it.
-fn name(s: &[u8], at: usize) -> Cursor
+// Reads a rule's name, which stands at a place, and the `=` after it: the place behind.
+fn name(s: &[u8], at: usize) -> Result<usize, usize>
     requires { (at < length s.now) × (Fresh s.now at) }
-    ensures { NameRead s.now at result }
+    ensures { MatchResult result (λ read. NameDone s.now at read) (λ place. NameWrong s.now at place) }
 {
     let end = letters_end(s, at);
     if end == at {
-        return wrong(at);
+        return Err(at);
     }
     if LETTERS < end - at {
-        return wrong(at + LETTERS);
+        return Err(at + LETTERS);
     }
     if is_empty(s, at, end) {
-        return wrong(end);
+        return Err(end);
     }
     let equals = skip_blanks(s, end);
-    if look(s, equals) != 61 {
-        return wrong(equals);
+    if !stands(s, equals, b'=') {
+        return Err(equals);
     }
-    Cursor {
-        good: true,
-        at: equals + 1,
-        next: 0,
-        from: at,
-    }
+    Ok(equals + 1)
 }
 
 // Goes on past the `;` of a rule and the blanks after it, after the rule's expression.
-fn finish(s: &[u8], read: Cursor) -> Cursor
+fn finish(s: &[u8], read: Cursor) -> Result<Cursor, usize>
     requires { read.at ≤ length s.now }
-    ensures { Finished s.now read result }
+    ensures { MatchResult result (λ body. Finished s.now read body) (λ place. FinishedWrong s.now read place) }
 {
-    if !read.good {
-        return read;
+    if !stands(s, read.at, b';') {
+        return Err(read.at);
     }
-    let end = read.at;
-    if look(s, end) != 59 {
-        return wrong(end);
-    }
-    let at = skip_blanks(s, end + 1);
-    Cursor {
-        good: true,
-        at: at,
+    Ok(Cursor {
+        at: skip_blanks(s, read.at + 1),
         next: read.next,
         from: read.from,
-    }
+    })
 }
 
 // Reads a rule, whose name stands at a place, and the blanks after it.
-pub fn rule(s: &[u8], at: usize, nodes: &mut [usize], n: usize) -> RuleRead
+pub fn rule(s: &[u8], at: usize, nodes: &mut [RawNode], n: usize) -> Result<Cursor, usize>
     requires { (at < length s.now) × (Fresh s.now at) }
-    ensures { RuleReadAs s.now at nodes.old n result nodes.new }
+    ensures { MatchResult result
+        (λ read. RuleDone s.now at nodes.old n read nodes.new)
+        (λ place. RuleWrong s.now at nodes.old place nodes.new) }
 {
-    let named = name(s, at);
-    let begin = named.at;
-    if !named.good {
-        return RuleRead {
-            good: false,
-            at: begin,
-            next: n,
-            name: at,
-        };
-    }
-    let read = expression(s, begin, NESTINGS, nodes, n);
-    let body = finish(s, read);
-    RuleRead {
-        good: body.good,
-        at: body.at,
-        next: body.next,
-        name: at,
-    }
+    let begin = name(s, at)?;
+    let read = expression(s, begin, NESTINGS, nodes, n)?;
+    finish(s, read)
 }
 
-// Puts a rule's row down, where the buffer has room for it, and answers the next row's number.
-fn put_row(rows: &mut [usize], n: usize, place: usize, last: usize) -> usize
-    ensures { Laid 2 rows.old n result 1 (place ∷ last ∷ []) rows.new }
-{
-    if MOST <= n {
-        return MANY;
-    }
-    let at = 2 * n;
-    if rows.len() < at + 2 {
-        return n + 1;
-    }
-    rows[at] = place;
-    rows[at + 1] = last;
-    n + 1
-}
-
-// Reads a sheet: puts its nodes and the rows of its rules down, each as the text is read.
-pub fn read_sheet(s: &[u8], nodes: &mut [usize], rows: &mut [usize]) -> Outline
-    ensures { OutlinedAs s.now nodes.old rows.old
-        result nodes.new rows.new }
+// Reads a sheet: puts its nodes and the rows of its rules down, each as the text is read; the place where it goes wrong
+// or more is due.
+pub fn read_sheet(s: &[u8], nodes: &mut [RawNode], rows: &mut [Row]) -> Result<Outline, usize>
+    ensures { MatchResult result
+        (λ outline. OutlinedAs s.now nodes.old rows.old outline nodes.new rows.new)
+        (λ place. NoOutline s.now nodes.old rows.old place nodes.new rows.new) }
 {
     let mut at = skip_blanks(s, 0);
     let mut next = 0;
     let mut rules = 0;
     while at < s.len() {
-        let read = rule(s, at, nodes, next);
-        let end = read.at;
-        if !read.good {
-            return Outline {
-                good: false,
-                place: end,
-                nodes: next,
-                rules: rules,
-            };
-        }
+        let read = rule(s, at, nodes, next)?;
+        let row = Row {
+            name: at,
+            last: read.last(),
+        };
         next = read.next;
-        rules = put_row(rows, rules, at, back(next, 1));
-        at = end;
+        rules = put(rows, rules, row);
+        at = read.at;
     }
-    Outline {
-        good: rules != 0,
-        place: at,
-        nodes: next,
-        rules: rules,
+    if rules == 0 {
+        return Err(at);
     }
+    Ok(Outline { nodes: next, rules })
 }

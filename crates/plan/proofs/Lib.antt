@@ -6,3 +6,4 @@ pub mod Rows
 pub mod Runnable
 pub mod Searches
 pub mod Alike
+pub mod Steps

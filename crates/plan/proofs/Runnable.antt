@@ -187,3 +187,14 @@ module _ {bytes : List ℕ} {count kinds : ℕ} (runs : Runnable bytes count kin
       by_count : Dec (n < count) → tag_of (nodes bytes plan_nodes_at count n) < 65536
       by_count (yes below) = proper_tag (rw (← runs.count_is, ← runs.kinds_is) at all.formed_is.good.proper n below)
       by_count (no above) = rw (nodes_beyond bytes plan_nodes_at count n (omega arith)) (omega arith)
+
+-- the left and right of a node of bytes judged a plan
+module _ (bytes : List ℕ) (good : (plan_judged bytes).number ≡ DONE) where
+  pub own : Runnable bytes (plan_count bytes) (plan_kinds bytes)
+  own = record { good = good; count_is = refl; kinds_is = refl }
+
+  pub left_of_node : (n : ℕ) → (plan_of bytes).left n < plan_count bytes
+  left_of_node = left_node own
+
+  pub right_of_node : (n : ℕ) → (plan_of bytes).right n < plan_count bytes
+  right_of_node = right_node own

@@ -1,17 +1,20 @@
 -- Laws of bytes added to a buffer as far as there is room.
-use Prim.Native.Nat.{ℕ, zero, suc, ◌+◌, ◌-◌, ◌≤◌, ◌<◌}
+use Prim.Native.Nat.{ℕ, suc, ◌+◌, ◌-◌, ◌≤◌, min}
+use borrow.Rule.Slice.PartMut.{put_mid}
 use native.Mathlib.Omega.{arith}
 use native.Mathlib.Numerals.{add-one}
 use mathlib.Core.Path.{◌≡◌, refl, sym, ap, ◌∙◌}
 use mathlib.Core.Bool.{Bool, true, false}
 use mathlib.Core.List.{List, [], ◌∷◌, ◌++◌}
 use lib.Dec.{leb}
-use lib.ListN.{length, take, drop, length-append, take-append-drop, replicate-append-replicate}
-use lib.Seq.{sets, length-sets, set_out, length-take-le}
+use lib.ListN.{length, take, drop, length-append, take-append-drop, drop_of_length-le, replicate-append-replicate}
+use lib.Seq.{sets, paste, length-sets, sets-eq, set_out, take_all, length-take-le}
 use borrow.Author.Tests.{leb-true, leb-false}
+use Rattle.std.proofs.lemmas.Slice.{put_mid-paste}
 use Rattle.words.proofs.Stored.{sets-append}
-use Rattle.lines.specs.Lines.{Put}
+use Rattle.prints.specs.declared.Page.{Page}
 use Rattle.prints.specs.Prints.{Adds, spaces}
+use Rattle.prints.specs.Pages.{Added}
 
 -- a run of stores past the end changes nothing
 sets-past : (l : List ℕ) (at : ℕ) (xs : List ℕ) → length l ≤ at → sets l at xs ≡ l
@@ -22,33 +25,54 @@ sets-past l at (x ∷ xs) past =
 pub adds_none : (out : List ℕ) (at : ℕ) → Adds out out at at []
 adds_none out at = record { moved = λ h. omega arith; full = λ h. omega arith; is = refl }
 
--- nothing has room past the end
-pub adds_past : (out : List ℕ) (at : ℕ) (xs : List ℕ) → length out ≤ at → Adds out out at at xs
-adds_past out at xs past =
-    record { moved = λ h. omega arith; full = λ h. past; is = sym (sets-past out at xs past) }
+-- as many bytes as have room
+sets-cut : (out : List ℕ) (at : ℕ) (bytes : List ℕ) (from size : ℕ)
+    → from ≡ min at (length out)
+    → size ≡ min (length bytes) (length out - from)
+    → sets out from (take size bytes) ≡ sets out at bytes
+sets-cut out at bytes from size from_is size_is = go (leb at (length out)) refl
+  where
+    long : length (take size bytes) ≡ size
+    long = length-take-le size bytes (omega arith)
 
--- bytes that were put have room
-pub adds_put : {out end : List ℕ} {at next : ℕ} {xs : List ℕ} → Put out end at next xs → Adds out end at next xs
-adds_put p = record { moved = λ h. p.moved; full = λ h. omega (arith, p.moved); is = p.is }
+    rest : (s : List ℕ) → length s ≡ length out → sets s (from + size) (drop size bytes) ≡ s
+    rest s is = none (leb (length bytes) size) refl
+      where
+        none : (t : Bool) → leb (length bytes) size ≡ t → sets s (from + size) (drop size bytes) ≡ s
+        none true e = rw (drop_of_length-le bytes (leb-true (length bytes) size e))
+        none false e = sets-past s (from + size) (drop size bytes) (omega (arith, is, leb-false (length bytes) size e))
 
--- as many as have room
-pub adds_cut : {out end : List ℕ} {at next : ℕ} (room : ℕ) (xs : List ℕ)
-    → at + room ≡ length out
-    → room < length xs
-    → Put out end at next (take room xs)
-    → Adds out end at next xs
-adds_cut {out} {at = at} room xs is many p =
-    let size : length (take room xs) ≡ room = length-take-le room xs (omega arith) in
+    go : (t : Bool) → leb at (length out) ≡ t → sets out from (take size bytes) ≡ sets out at bytes
+    go true e =
+        let place : from ≡ at = omega (arith, leb-true at (length out) e) in
+        sym (rest (sets out from (take size bytes)) (length-sets out from (take size bytes)))
+        ∙ ap (λ (n : ℕ). sets (sets out from (take size bytes)) (from + n) (drop size bytes)) (sym long)
+        ∙ sets-append out from (take size bytes) (drop size bytes)
+        ∙ rw (take-append-drop size bytes, place)
+    go false e =
+        sets-past out from (take size bytes) (omega (arith, leb-false at (length out) e))
+        ∙ sym (sets-past out at bytes (omega (arith, leb-false at (length out) e)))
+
+pub adds_clipped : (out : List ℕ) (at : ℕ) (bytes : List ℕ) (from size : ℕ) {put : List ℕ}
+    → from ≡ min at (length out)
+    → size ≡ min (length bytes) (length out - from)
+    → put ≡ take size bytes
+    → Adds out (put_mid from (from + size - from) out put) at (from + size) bytes
+adds_clipped out at bytes from size {put} from_is size_is is =
     record {
       moved = λ h. omega arith;
-      full = λ h. omega (arith, p.moved, size);
+      full = λ h. omega arith;
       is =
-          p.is
-          ∙ sym (sets-past (sets out at (take room xs)) (at + length (take room xs)) (drop room xs)
-          (omega (arith, length-sets out at (take room xs), size)))
-          ∙ sets-append out at (take room xs) (drop room xs)
-          ∙ ap (sets out at) (take-append-drop room xs);
+          put_mid-paste from (from + size - from) out put (take size bytes) size is (omega arith)
+          (sym (length-take-le size bytes (omega arith)))
+          ∙ pasted
+          ∙ sets-cut out at bytes from size from_is size_is;
     }
+  where
+    pasted : paste out from (take size bytes) size ≡ sets out from (take size bytes)
+    pasted =
+        let long : length (take size bytes) ≡ size = length-take-le size bytes (omega arith) in
+        rw (sets-eq (take size bytes) out from (omega (arith, long)), long, take_all size (take size bytes) (omega (arith, long)))
 
 module _ {out mid : List ℕ} {at next : ℕ} {xs : List ℕ} (p : Adds out mid at next xs) where
   pub adds_length : length mid ≡ length out
@@ -83,22 +107,18 @@ module _ {out mid : List ℕ} {at next : ℕ} {xs : List ℕ} (p : Adds out mid 
           ∙ p.is
           ∙ sym (sets-past (sets out at xs) (at + length xs) ys (omega (arith, length-sets out at xs)))
 
--- where all have room, they are put
-pub adds_whole : {out end : List ℕ} {next : ℕ} {xs : List ℕ} → length xs ≤ length out → Adds out end 0 next xs → Put out end 0 next xs
-adds_whole {out} {next = next} {xs} fits p =
-    let moved : next ≡ 0 + length xs = p.moved (omega arith) in
-    record { moved = moved; within = omega (arith, moved); is = p.is }
+-- ---- a page
+
+pub added_none : (page : Page) → Added page page []
+added_none page = record { same = refl; adds = adds_none _ _ }
+
+-- bytes after bytes
+pub added_then : {page mid end : Page} {xs ys : List ℕ} → Added page mid xs → Added mid end ys → Added page end (xs ++ ys)
+added_then p q = record { same = q.same ∙ p.same; adds = adds_then p.adds q.adds }
 
 -- one space more
-pub adds_space : {out mid end : List ℕ} {at next last : ℕ} (i : ℕ)
-    → Adds out mid at next (spaces i)
-    → Adds mid end next last (32 ∷ [])
-    → Adds out end at last (spaces (i + 1))
-adds_space i p q = rw (add-one i) (rw (replicate-append-replicate {A = ℕ} i 1 32, add-one i) at (adds_then p q))
-
--- all spaces
-pub adds_spaces : {out end : List ℕ} {at last : ℕ} (i count : ℕ)
-    → i ≡ count
-    → Adds out end at last (spaces i)
-    → Adds out end at last (spaces count)
-adds_spaces i count is p = rw is at p
+pub added_space : {page mid end : Page} (i : ℕ)
+    → Added page mid (spaces i)
+    → Added mid end (32 ∷ [])
+    → Added page end (spaces (i + 1))
+added_space i p q = rw (add-one i) (rw (replicate-append-replicate {A = ℕ} i 1 32, add-one i) at (added_then p q))

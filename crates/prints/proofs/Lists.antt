@@ -1,14 +1,15 @@
--- Laws of lists added to a buffer one after the other, and of how long they are together.
+-- Laws of lists added to a page one after the other, and of how long they are together.
 use Prim.Native.Nat.{ℕ, zero, suc, ◌+◌, ◌*◌, ◌≤◌, ◌<◌}
-use native.Mathlib.Nat.{add-zero, zero-add, zero-mul, suc-mul}
+use native.Mathlib.Nat.{add-zero, zero-add, suc-mul}
 use native.Mathlib.Numerals.{add-one}
 use native.Mathlib.Omega.{arith}
-use mathlib.Core.Path.{◌≡◌, refl, sym, ap, ◌∙◌}
-use mathlib.Core.List.{List, [], ◌∷◌, ◌++◌, append_assoc, append-nil}
+use mathlib.Core.Path.{◌≡◌, sym, ap, ◌∙◌}
+use mathlib.Core.List.{List, ◌++◌, append_assoc, append-nil}
 use lib.ListN.{length, length-append}
 use Rattle.words.specs.Lists.{lists_from}
-use Rattle.prints.specs.Prints.{Adds}
-use Rattle.prints.proofs.Laws.{adds_none, adds_then}
+use Rattle.prints.specs.declared.Page.{Page}
+use Rattle.prints.specs.Pages.{Added}
+use Rattle.prints.proofs.Laws.{added_none, added_then}
 
 module _ (list : ℕ → List ℕ) where
   -- one list more
@@ -20,21 +21,21 @@ module _ (list : ℕ → List ℕ) where
       ∙ sym (append_assoc (list n) (lists_from list left (suc n)) (list (suc n + left)))
       ∙ ap (λ (m : ℕ). list n ++ lists_from list left (suc n) ++ list m) {x = suc n + left} {y = n + suc left} (omega arith)
 
-  pub adds_no_list : (out : List ℕ) (at : ℕ) → Adds out out at at (lists_from list 0 0)
+  pub added_no_list : (page : Page) → Added page page (lists_from list 0 0)
   unfolding lists_from
-  adds_no_list out at = adds_none out at
+  added_no_list page = added_none page
 
-  pub adds_list : {out mid end : List ℕ} {at next last : ℕ} (i : ℕ)
-      → Adds out mid at next (lists_from list i 0)
-      → Adds mid end next last (list i)
-      → Adds out end at last (lists_from list (i + 1) 0)
-  adds_list i p q = rw (add-one i, lists_more i 0, zero-add i) (adds_then p q)
+  pub added_list : {page mid end : Page} (i : ℕ)
+      → Added page mid (lists_from list i 0)
+      → Added mid end (list i)
+      → Added page end (lists_from list (i + 1) 0)
+  added_list i p q = rw (add-one i, lists_more i 0, zero-add i) (added_then p q)
 
-  pub adds_lists : {out end : List ℕ} {at last : ℕ} (i count : ℕ)
+  pub added_lists : {page end : Page} {i count : ℕ}
+      → Added page end (lists_from list i 0)
       → i ≡ count
-      → Adds out end at last (lists_from list i 0)
-      → Adds out end at last (lists_from list count 0)
-  adds_lists i count is p = rw is at p
+      → Added page end (lists_from list count 0)
+  added_lists p is = rw is at p
 
   -- lists of so many bytes at most each
   pub lists_short : (most left n : ℕ)

@@ -1,1 +1,3 @@
+pub mod Digits
 pub mod Prints
+pub mod Pages

@@ -1,62 +1,92 @@
-// Bytes and numbers added to a lent buffer, as far as there is room.
+// A page: a lent buffer on which bytes and numbers are written one after the other, as far as there is room.
 #![tactic(auto)]
 
-ghost use Rattle.std.specs.Prelude.{cond, []};
-ghost use Rattle.lines.specs.Lines.{digits_of, spaced};
-ghost use Rattle.prints.specs.Prints.{Adds, spaces};
+ghost use Rattle.std.specs.Prelude.{◌≡◌, ℕ, List, cond, []};
+ghost use Rattle.prints.specs.Digits.{digits_of, spaced};
+ghost use Rattle.words.specs.Lists.{lists_from};
+ghost use Rattle.prints.specs.Prints.{spaces};
+ghost use Rattle.prints.specs.Pages.{Added, CallableBelow, AddsBelow};
 
-use lines::{put_bytes, put_number};
-
-// Adds bytes at a place, and answers the place after them.
-pub fn add_bytes(out: &mut [u8], at: usize, bytes: &[u8]) -> usize
-    ensures { Adds out.old out.new at result bytes.now }
-{
-    if out.len() <= at {
-        return at;
-    }
-    let room = out.len() - at;
-    if bytes.len() <= room {
-        return put_bytes(out, at, bytes);
-    }
-    put_bytes(out, at, &bytes[..room])
+// A lent buffer, and how much of it is written, from its start on.
+#[derive(Drop)]
+pub struct Page<'a> {
+    out: &'a mut [u8],
+    at: usize,
 }
 
-// Adds bytes where a test holds, else none.
-pub fn add_where(out: &mut [u8], at: usize, test: bool, bytes: &[u8]) -> usize
-    ensures { Adds out.old out.new at result (cond test bytes.now []) }
-{
-    if test {
-        return add_bytes(out, at, bytes);
+impl<'a> Page<'a> {
+    // A page on which nothing is written.
+    pub fn new(out: &'a mut [u8]) -> Page<'a>
+        ensures same { result.out.ghost_name ≡ out.entry.ghost_name }
+        ensures was { result.out.now ≡ out.old }
+        ensures blank { result.at ≡ 0 }
+    {
+        Page { out, at: 0 }
     }
-    at
-}
 
-// Adds a number's decimal digits.
-pub fn add_number(out: &mut [u8], at: usize, value: u64) -> usize
-    ensures { Adds out.old out.new at result (digits_of value) }
-{
-    let mut digits = [0u8; 20];
-    let size = put_number(&mut digits, 0, value);
-    add_bytes(out, at, &digits[..size])
-}
-
-// Adds a space and a number.
-pub fn add_spaced(out: &mut [u8], at: usize, value: u64) -> usize
-    ensures { Adds out.old out.new at result (spaced value) }
-{
-    let next = add_bytes(out, at, b" ");
-    add_number(out, next, value)
-}
-
-// Adds so many spaces.
-pub fn add_spaces(out: &mut [u8], at: usize, count: usize) -> usize
-    ensures { Adds out.old out.new at result (spaces count) }
-{
-    let mut next = at;
-    let mut i = 0;
-    while i < count {
-        next = add_bytes(out, next, b" ");
-        i += 1;
+    // How much is written.
+    pub fn len(&self) -> usize
+        ensures { result ≡ self.now.at }
+    {
+        self.at
     }
-    next
+
+    // Adds bytes.
+    pub fn add(&mut self, bytes: &[u8])
+        ensures { Added self.old self.new bytes.now }
+    {
+        let Page { out, at } = self;
+        let from = (*at).min(out.len());
+        let size = bytes.len().min(out.len() - from);
+        out[from..from + size].copy_from_slice(&bytes[..size]);
+        *at = from + size;
+    }
+
+    // Adds bytes where a test holds, else none.
+    pub fn add_where(&mut self, test: bool, bytes: &[u8])
+        ensures { Added self.old self.new (cond test bytes.now []) }
+    {
+        if test {
+            self.add(bytes);
+        }
+    }
+
+    // Adds a number's decimal digits.
+    pub fn add_number(&mut self, value: u64)
+        ensures { Added self.old self.new (digits_of value) }
+    {
+        if value >= 10 {
+            self.add_number(value / 10);
+        }
+        self.add(&[b'0' + (value % 10) as u8]);
+    }
+
+    // Adds a space and a number.
+    pub fn add_spaced(&mut self, value: u64)
+        ensures { Added self.old self.new (spaced value) }
+    {
+        self.add(b" ");
+        self.add_number(value);
+    }
+
+    // Adds so many spaces.
+    pub fn add_spaces(&mut self, count: usize)
+        ensures { Added self.old self.new (spaces count) }
+    {
+        for _i in 0..count {
+            self.add(&[b' ']);
+        }
+    }
+
+    // Adds something for each number below a count.
+    pub fn add_each<F: Fn(&mut Page, usize)>(&mut self, count: usize, add: F)
+        requires { CallableBelow (F.pre add) count }
+        ensures { (list : ℕ → List ℕ)
+            → AddsBelow (F.post add) count list
+            → Added self.old self.new (lists_from list count 0) }
+    {
+        for n in 0..count {
+            add(self, n);
+        }
+    }
 }

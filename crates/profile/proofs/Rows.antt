@@ -1,43 +1,37 @@
 -- Each way out of measuring and of a profile, and the row of the table of answers that it is.
-use Prim.Native.Nat.{ℕ, ◌≤◌, ◌<◌}
+use Prim.Native.Nat.{ℕ, max, ◌-◌, ◌≤◌, ◌<◌}
 use native.Mathlib.Omega.{arith}
 use mathlib.Core.Path.{◌≡◌, refl, sym, subst}
 use mathlib.Core.List.{List}
-use mathlib.Core.Logic.{inl}
+use mathlib.Core.Logic.{◌≢◌}
 use lib.Dec.{ltb}
 use lib.ListN.{get_or}
 use borrow.Author.Tests.{ltb-true, lt-ltb}
-use Rattle.words.specs.Words.{zeros}
 use Rattle.book.specs.Book.{WellFormed}
-use Rattle.book.specs.Form.{DONE, form_of, book_of}
-use Rattle.book.proofs.Decoded.{formed, well_formed}
+use Rattle.book.specs.Form.{DONE, book_of}
 use Rattle.grammar.specs.Passing.{Passes}
-use Rattle.rules.specs.Facts.{table_size}
-use Rattle.rules.specs.Growth.{Blank}
-use Rattle.rules.proofs.Growing.{blank-zeros, blank_less}
 use Rattle.verdict.specs.Judges.{judgement, Judges}
-use Rattle.verdict.specs.Conflicts.{Known}
-use Rattle.verdict.proofs.Books.{count_small}
 use Rattle.verdict.proofs.Passing.{passed}
 use Rattle.depths.specs.Ways.{AtLeast, held_by}
 use Rattle.depths.proofs.Rising.{Tested, heavy_unbounded}
 use Rattle.depths.proofs.Numbers.{greatest_by, greatest_none}
 use Rattle.running.proofs.Found.{marks, marks_are}
-use Rattle.profile.specs.declared.Depth.{Depth}
+use Rattle.std.specs.Prelude.{Result}
+use Rattle.std.specs.Result.{MatchResult, IsErrAnd}
+use Rattle.std.proofs.lemmas.Result.{err_from_is_err_and}
+use Rattle.std.proofs.lemmas.Bool.Decides.{nat_tests}
+use Rattle.verdict.specs.declared.Refusal.{Refusal}
+use Rattle.verdict.specs.Refusals.{verdict_by}
+use Rattle.verdict.proofs.Answers.{refusal_number}
+use Rattle.profile.specs.declared.DepthError.{DepthError}
+use Rattle.profile.specs.declared.DepthError.TheVariants.{Book, Unbounded, Deeper, Slots}
+use Rattle.profile.specs.Errors.{depth_by}
 use Rattle.profile.specs.Weights.{MOST, Weighed}
-use Rattle.profile.specs.Profiles.{UNBOUNDED, SLOTS, depth, Measures, refused, unbounded, measured, Profiles, no_profile, fits}
+use Rattle.profile.specs.Profiles.{UNBOUNDED, depth, Measures, refused, unbounded, measured, Profiles, refused_anyhow}
 
--- a table of zeros for any book of good form
-pub table-blank : (bytes : List ℕ) → (form_of bytes).number ≡ DONE → Blank (table_size (book_of bytes).count) (zeros 2048)
-table-blank bytes good = blank_less (omega (arith, (well_formed (formed bytes good)).few_nodes)) (blank-zeros 2048)
-
--- a book whose facts are known can be weighed, in blank weights for 512 nodes
-pub weighable : {bytes table weights : List ℕ} {count : ℕ} → count ≡ (book_of bytes).count → Known bytes (book_of bytes).count table
-    → Blank 512 weights → Known bytes count table × Blank count weights
-weighable {bytes} {table} count_is known blank = (
-  subst (λ n. Known bytes n table) (sym count_is) known,
-  blank_less (omega (arith, count_is, count_small known.good)) blank,
-)
+-- a way of one weight or two holds one part, and one of more weights one less
+pub held_is : (weight : ℕ) → max (weight - 1) 1 ≡ held_by weight
+held_is weight = grind (arith, nat_tests)
 
 -- the start's number among the weights of a book that passes
 module _ {bytes list : List ℕ} {count start : ℕ} (judges : Judges bytes (judgement DONE 0 0 0)) (count_is : count ≡ (book_of bytes).count)
@@ -82,22 +76,27 @@ module _ {bytes list : List ℕ} {count start : ℕ} (judges : Judges bytes (jud
       let own = subst (λ (s : ℕ). AtLeast (book_of bytes).node ((book_of bytes).node s) (get_or list start 0)) (sym start_is) a in
       absurd (omega (arith, (weighed.told start (get_or list start 0) start_in small).1 own))))
 
--- ---- profiles
+-- ---- what stands against a book or a profile
+
+-- is no answer that is done
+depth_number : (error : DepthError) → (depth_by error).number ≢ DONE
+depth_number (Book refusal) is = refusal_number refusal is
+depth_number Unbounded is = absurd (omega (arith, is))
+depth_number (Deeper m) is = absurd (omega (arith, is))
+depth_number Slots is = absurd (omega (arith, is))
 
 module _ {bytes : List ℕ} where
-  -- fewer slots than one are no profile
-  pub none_few : {slots : ℕ} → slots < 1 → Profiles bytes slots (depth SLOTS 0 0)
-  none_few few = no_profile (inl few)
+  -- a book that is refused
+  pub book_refused : {A : Type 0} (Held : A → Type 0) (answer : Result A DepthError) (of : Refusal) → IsErrAnd answer (λ error. error ≡ Book of)
+      → Judges bytes (verdict_by of) → MatchResult answer Held (λ error. Measures bytes (depth_by error))
+  book_refused Held answer of is judges =
+      let p = err_from_is_err_and answer is in
+      rw (p.1, p.2) (refused judges (refusal_number of))
 
-  -- where measuring is done, there is a number
-  pub measured_done : {d : Depth} → Measures bytes d → d.number ≡ DONE → Measures bytes (depth DONE 0 d.held)
-  measured_done (refused judges bad) is = absurd (bad is)
-  measured_done (unbounded judges none) is = absurd (omega (arith, is))
-  measured_done (measured judges one) is = measured judges one
-
-  -- which is at most the slots
-  pub measured_fits : {slots : ℕ} {d : Depth} → 1 ≤ slots → slots ≤ 64 → Measures bytes d → d.number ≡ DONE → d.held ≤ slots
-      → Profiles bytes slots d
-  measured_fits some few (refused judges bad) is most = absurd (bad is)
-  measured_fits some few (unbounded judges none) is most = absurd (omega (arith, is))
-  measured_fits some few (measured judges one) is most = fits some few (measured judges one) most
+  -- and whatever stands against a book stands against a profile
+  pub profile_refused : {slots : ℕ} {A : Type 0} (Held : A → Type 0) (answer : Result A DepthError) (of : DepthError)
+      → IsErrAnd answer (λ error. error ≡ of) → 1 ≤ slots → slots ≤ 64 → Measures bytes (depth_by of)
+      → MatchResult answer Held (λ error. Profiles bytes slots (depth_by error))
+  profile_refused Held answer of is some few measures =
+      let p = err_from_is_err_and answer is in
+      rw (p.1, p.2) (refused_anyhow some few measures (depth_number of))

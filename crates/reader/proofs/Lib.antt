@@ -12,3 +12,4 @@ pub mod Settles
 pub mod Stops
 pub mod Answers
 pub mod Alike
+pub mod Bars

@@ -5,7 +5,7 @@ use mathlib.Core.List.{List}
 use Prim.Native.Nat.{ℕ, suc, ◌+◌, ◌-◌, ◌≤◌, ◌<◌}
 use native.Mathlib.Numerals.{add-one}
 use native.Mathlib.Omega.{arith}
-use borrow.Author.Tests.{ne_eqb}
+use lib.Dec.{eqb}
 use lib.ListN.{length, get_or, set, length-set}
 use Rattle.book.specs.Form.{DONE}
 use Rattle.running.specs.Running.{Plan, emptied, UNEXPECTED, END}
@@ -57,9 +57,9 @@ module _ {machine : ℕ → ℕ → List ℕ → List ℕ → After} {goal : Aft
 module _ (p : Plan) (k : ℕ) {goal : After} {nodes slots room bound parts records : ℕ} {held tree : List ℕ}
     (w : Taking (take_of p k) goal nodes slots room bound parts records held tree) where
   -- no part is left
-  pub take_none : parts ≤ 0 → stands UNEXPECTED true 0 records held tree ≡ goal
+  pub take_none : parts ≤ 0 → stands UNEXPECTED true parts records held tree ≡ goal
   unfolding take_of
-  take_none none = let z : parts ≡ 0 = omega arith in rw z at w.rest
+  take_none none = let z : parts ≡ 0 = omega arith in rw z (rw z at w.rest)
 
   module _ (some : 0 < parts) where
     last : ℕ
@@ -71,17 +71,17 @@ module _ (p : Plan) (k : ℕ) {goal : After} {nodes slots room bound parts recor
     unfolding take_of last
     taking = rw (add-one records) (rw (one_more w some) at w.rest)
 
-    pub take_walks : (p.cell (last_at held parts) k ≡ 0 → ⊥)
+    pub take_walks : eqb (p.cell (last_at held parts) k) 0 ≡ false
         → walk_of p k p.count (last_at held parts) (last_label held parts) (parts - 1) records held tree ≡ goal
     unfolding off_of last
-    take_walks walks = rw (ne_eqb (p.cell (last_at held parts) k) 0 walks) at taking
+    take_walks walks = rw walks at taking
 
-    pub take_refuses : p.cell (last_at held parts) k ≡ 0 → p.null (last_at held parts) ≡ false
+    pub take_refuses : eqb (p.cell (last_at held parts) k) 0 ≡ true → p.null (last_at held parts) ≡ false
         → stands UNEXPECTED true (parts - 1) records held tree ≡ goal
     unfolding off_of last
     take_refuses is null = rw (is, null) at taking
 
-    pub take_passes : p.cell (last_at held parts) k ≡ 0 → p.null (last_at held parts) ≡ true
+    pub take_passes : eqb (p.cell (last_at held parts) k) 0 ≡ true → p.null (last_at held parts) ≡ true
         → {tree' : List ℕ} → tree' ≡ set tree records (emptied (last_at held parts))
         → Taking (take_of p k) goal nodes slots room bound (parts - 1) (records + 1) held tree'
     unfolding off_of last
@@ -91,9 +91,9 @@ module _ (p : Plan) (k : ℕ) {goal : After} {nodes slots room bound parts recor
 module _ (p : Plan) {goal : After} {nodes slots room bound parts records : ℕ} {held tree : List ℕ}
     (w : Taking (finish_of p) goal nodes slots room bound parts records held tree) where
   -- no part is left
-  pub finish_none : parts ≤ 0 → stands DONE true 0 records held tree ≡ goal
+  pub finish_none : parts ≤ 0 → stands DONE true parts records held tree ≡ goal
   unfolding finish_of
-  finish_none none = let z : parts ≡ 0 = omega arith in rw z at w.rest
+  finish_none none = let z : parts ≡ 0 = omega arith in rw z (rw z at w.rest)
 
   module _ (some : 0 < parts) where
     pub finish_refuses : p.null (last_at held parts) ≡ false → stands END true (parts - 1) records held tree ≡ goal

@@ -5,7 +5,7 @@ use mathlib.Core.List.{List}
 use Prim.Native.Nat.{ℕ, suc, ◌+◌, ◌-◌, ◌<◌}
 use native.Mathlib.Numerals.{add-one}
 use native.Mathlib.Omega.{arith}
-use borrow.Author.Tests.{ne_eqb}
+use lib.Dec.{eqb}
 use lib.Bits.{or_zero_r}
 use lib.ListN.{get_or}
 use Rattle.kinds.specs.Kinds.{only_kind, joined}
@@ -16,13 +16,13 @@ use Rattle.reader.specs.Machine.{node_in, stack}
 
 -- a row with the next kind
 module _ (p : Plan) (n k : ℕ) where
-  pub row_without : p.cell n k ≡ 0 → row_first p n k ≡ row_first p n (k + 1)
+  pub row_without : eqb (p.cell n k) 0 ≡ true → row_first p n k ≡ row_first p n (k + 1)
   unfolding row_first
   row_without is = rw (add-one k, is, or_zero_r) refl
 
-  pub row_with : (p.cell n k ≡ 0 → ⊥) → joined (row_first p n k) (only_kind k) ≡ row_first p n (k + 1)
+  pub row_with : eqb (p.cell n k) 0 ≡ false → joined (row_first p n k) (only_kind k) ≡ row_first p n (k + 1)
   unfolding row_first
-  row_with some = rw (add-one k, ne_eqb (p.cell n k) 0 some) refl
+  row_with some = rw (add-one k, some) refl
 
 -- the kinds of the parts passed are joined with those that the parts left expect, and come to the goal
 pub record Joining (p : Plan) (held : List ℕ) (goal set parts : ℕ) : Type 0 where

@@ -1,5 +1,5 @@
 -- A run's end, settled, is the outcome of reading.
-use mathlib.Core.Path.{◌≡◌, refl, ap, ap₂, ◌∙◌}
+use mathlib.Core.Path.{◌≡◌, refl, sym, ap, ap₂, ◌∙◌}
 use mathlib.Core.Bool.{Bool, true, false, cond}
 use mathlib.Core.List.{List, ◌++◌, append-nil}
 use Prim.Native.Nat.{ℕ, ◌+◌, ◌-◌, ◌≤◌, ◌<◌}
@@ -14,7 +14,11 @@ use Rattle.words.specs.Words.{zeros}
 use Rattle.book.specs.Form.{DONE}
 use Rattle.running.specs.Running.{Plan, AnswerOf, DEEP}
 use Rattle.running.specs.Stages.{Part}
+use Rattle.book.specs.declared.Judged.{Judged}
+use Rattle.plan.specs.Errors.{judged_by}
 use Rattle.plan.specs.Form.{plan_judged}
+use Rattle.plan.specs.declared.PlanError.{PlanError}
+use Rattle.plan.specs.declared.PlanError.TheVariants.{Form, Cell}
 use Rattle.reader.specs.declared.Reading.{Reading}
 use Rattle.reader.specs.Numbers.{LONG, NO-ROOM, answered}
 use Rattle.reader.specs.Reads.{Outcome, outcome, bare, accepted_of, outcome_of, run_of, read_of}
@@ -48,12 +52,23 @@ module _ (answer : Reading) (tree : List ℕ) {left : List ℕ} where
       rw (rest_cleared tree left answer.records fits cleared, eq-eqb answer.number DONE is)
       (rw (le-leb answer.records (length tree) fits) refl)
 
+-- what stands against a plan has a number that is not DONE
+not_done : (error : PlanError) → (judged_by error).number ≡ DONE → ⊥
+not_done Form is = omega arith
+not_done (Cell place) is = omega arith
+
 -- a reading, by each test
 module _ (plan run : List ℕ) (slots room : ℕ) where
   pub read_form : ((plan_judged plan).number ≡ DONE → ⊥)
       → read_of plan run slots room ≡ bare room (answered (plan_judged plan).number (plan_judged plan).place 0 0)
   unfolding read_of
   read_form not = rw (ne_eqb (plan_judged plan).number DONE not)
+
+  pub read_barred : (error : PlanError) → plan_judged plan ≡ judged_by error
+      → read_of plan run slots room ≡ bare room (answered (judged_by error).number (judged_by error).place 0 0)
+  read_barred error is =
+      read_form (λ done. not_done error (ap (λ (j : Judged). j.number) (sym is) ∙ done))
+      ∙ ap (λ (j : Judged). bare room (answered j.number j.place 0 0)) is
 
   module _ (good : (plan_judged plan).number ≡ DONE) where
     pub read_long : 65535 < length run → read_of plan run slots room ≡ bare room (answered LONG 0 0 0)

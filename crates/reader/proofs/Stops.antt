@@ -166,23 +166,25 @@ module _ {p : Plan} {run held tree : List ℕ} {e : Passed} (w : Passing p run h
       (reads : again ≡ pass_of p 0 (take e.stop.at run) 1 0 (set held' 0 (slot_of p.start 0)) tree') where
     all-taken : {q : Progress} {place : ℕ} {before : List Part} {records : List ℕ} {e' : Passed} → Went p (length held) tree' q e'
         → q ≡ going place before records → (again ≡ e')
-        → (again.stop.intact ≡ true) × (before ≡ stack again.held again.stop.count)
+        → (again.stop.intact ≡ true) × (before ≡ stack again.held again.stop.count) × (again.stop.number ≡ DONE)
     all-taken {before = before} (went_on {held = parts} g) is same =
         let parts_are : before ≡ parts = cc in
-        rw same (g.intact, parts_are ∙ g.parts)
+        rw same (g.intact, parts_are ∙ g.parts, g.number_is)
     all-taken (went_over g) is same = let never : ◌≡◌ {A = ℕ} 0 1 = cc in absurd (omega arith)
 
     taken_again : (place : ℕ) (before : List Part) (records : List ℕ) → e.stop.at ≡ place
         → steps p free first (take place run) ≡ going place before records
-        → (again.stop.intact ≡ true) × (before ≡ stack again.held again.stop.count)
+        → (again.stop.intact ≡ true) × (before ≡ stack again.held again.stop.count) × (again.stop.number ≡ DONE)
     taken_again place before records is front = all-taken (begins (take place run) held' tree' slots) front (rw is at reads)
 
-    pub again_intact : again.stop.intact ≡ true
+    pub again_intact : (again.stop.intact ≡ true) × (again.stop.number ≡ DONE)
     again_intact = by_stop stopping
       where
-        by_stop : Stopping → again.stop.intact ≡ true
+        by_stop : Stopping → (again.stop.intact ≡ true) × (again.stop.number ≡ DONE)
         by_stop (at_end_lem g whole comes) = absurd (not_done g.number_is)
-        by_stop (at_event {number} {place} {before} records g within front comes) = (taken_again place before records g.place_is front).0
+        by_stop (at_event {number} {place} {before} records g within front comes) =
+            let all = taken_again place before records g.place_is front in
+            (all.0, all.2)
 
     pub run_again : (left : List ℕ) → length left ≡ length tree → tells e.stop.number ≡ true → {r : Reading}
         → r ≡ told e.stop.number e.stop.at (stage_of (stack again.held again.stop.count))

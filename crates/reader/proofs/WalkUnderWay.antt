@@ -1,32 +1,17 @@
 -- A walk under way: what is left of it comes to the whole walk's end, and how each cell goes on or ends it.
-use mathlib.Core.Path.{◌≡◌, refl, ap, ◌∙◌}
+use mathlib.Core.Path.{◌≡◌, ap, ◌∙◌}
 use mathlib.Core.Bool.{false}
 use mathlib.Core.List.{List}
-use Prim.Native.Nat.{ℕ, zero, suc, ◌+◌, ◌*◌, ◌≤◌, ◌<◌}
+use Prim.Native.Nat.{ℕ, suc, ◌+◌, ◌*◌, ◌≤◌, ◌<◌}
 use native.Mathlib.Numerals.{add-one}
 use native.Mathlib.Omega.{arith}
 use borrow.Author.Tests.{lt-ltb, le-ltb}
 use lib.ListN.{length, set, length-set}
 use Rattle.book.specs.Form.{DONE}
-use Rattle.running.specs.Running.{Plan, move_of, refuse, emptied, DEEP, UNEXPECTED, RUNAWAY}
+use Rattle.running.specs.Running.{Plan, move_of, refuse, take_event, go_left, hold_right, skip_left, go_right, emptied, DEEP, UNEXPECTED, RUNAWAY}
 use Rattle.running.specs.Stages.{inside}
 use Rattle.reader.specs.Machine.{After, stands, slot_of, visit_of, walk_of}
 use Rattle.reader.proofs.Simulation.{Bounded, inside_small}
-
--- a cell that is none of 1 to 5, as the last arm of a match knows it
-abbrev pub NoCell : ℕ → Type 0
-NoCell c = ((((Unit {0} × (c ≡ 1 → ⊥)) × (c ≡ 2 → ⊥)) × (c ≡ 3 → ⊥)) × (c ≡ 4 → ⊥)) × (c ≡ 5 → ⊥)
-
--- it refuses the event
-no_cell : (c : ℕ) → NoCell c → move_of c ≡ refuse
-unfolding move_of
-no_cell zero none = refl
-no_cell (suc zero) none = absurd (none.0.0.0.0.1 refl)
-no_cell (suc (suc zero)) none = absurd (none.0.0.0.1 refl)
-no_cell (suc (suc (suc zero))) none = absurd (none.0.0.1 refl)
-no_cell (suc (suc (suc (suc zero)))) none = absurd (none.0.1 refl)
-no_cell (suc (suc (suc (suc (suc zero))))) none = absurd (none.1 refl)
-no_cell (suc (suc (suc (suc (suc (suc c)))))) none = refl
 
 module _ (p : Plan) (k : ℕ) (goal : After) (slots room bound : ℕ) where
   -- a walk with so many visits left, at a node: what is left comes to the goal, and the state is sound
@@ -72,16 +57,16 @@ module _ {p : Plan} {k : ℕ} {goal : After} {slots room bound : ℕ} where
 
   module _ {left n outer count written : ℕ} {held tree : List ℕ}
       (v : Visiting p k goal slots room bound left n outer count written held tree) where
-    pub visit_takes : p.cell n k ≡ 1 → stands DONE false count written held tree ≡ goal
-    unfolding visit_of move_of
+    pub visit_takes : move_of (p.cell n k) ≡ take_event → stands DONE false count written held tree ≡ goal
+    unfolding visit_of
     visit_takes is = rw is at v.rest
 
-    pub visit_refuses : NoCell (p.cell n k) → stands UNEXPECTED false count written held tree ≡ goal
+    pub visit_refuses : move_of (p.cell n k) ≡ refuse → stands UNEXPECTED false count written held tree ≡ goal
     unfolding visit_of
-    visit_refuses none = rw (no_cell (p.cell n k) none) at v.rest
+    visit_refuses is = rw is at v.rest
 
-    pub visit_deep : p.cell n k ≡ 3 → length held ≤ count → stands DEEP false count written held tree ≡ goal
-    unfolding visit_of move_of
+    pub visit_deep : move_of (p.cell n k) ≡ hold_right → length held ≤ count → stands DEEP false count written held tree ≡ goal
+    unfolding visit_of
     visit_deep is full = rw (is, le-ltb count (length held) full) at v.rest
 
     -- the walk goes on at a node
@@ -103,17 +88,17 @@ module _ {p : Plan} {k : ℕ} {goal : After} {slots room bound : ℕ} where
       fits : label < 65536
       fits = rw Label-is (inside_small b n outer v.label_small)
 
-      pub goes_left : {m : ℕ} → p.cell n k ≡ 2 → m ≡ p.left n → Walking p k goal slots room bound left m label count written held tree
-      unfolding visit_of move_of
+      pub goes_left : {m : ℕ} → move_of (p.cell n k) ≡ go_left → m ≡ p.left n → Walking p k goal slots room bound left m label count written held tree
+      unfolding visit_of
       goes_left is goes = goes_on _ _ (rw goes (b.left_below n)) fits (rw (goes, Label-is) (rw is at v.rest))
 
-      pub goes_right : {m : ℕ} → p.cell n k ≡ 5 → m ≡ p.right n → Walking p k goal slots room bound left m label count written held tree
-      unfolding visit_of move_of
+      pub goes_right : {m : ℕ} → move_of (p.cell n k) ≡ go_right → m ≡ p.right n → Walking p k goal slots room bound left m label count written held tree
+      unfolding visit_of
       goes_right is goes = goes_on _ _ (rw goes (b.right_below n)) fits (rw (goes, Label-is) (rw is at v.rest))
 
-      pub holds_right : {m slot : ℕ} → p.cell n k ≡ 3 → count < length held → m ≡ p.left n → slot ≡ slot_of (p.right n) label
+      pub holds_right : {m slot : ℕ} → move_of (p.cell n k) ≡ hold_right → count < length held → m ≡ p.left n → slot ≡ slot_of (p.right n) label
           → Walking p k goal slots room bound left m label (count + 1) written (set held count slot) tree
-      unfolding visit_of move_of
+      unfolding visit_of
       holds_right is free goes holds =
           record {
             rest = rw (goes, holds, Label-is, add-one count) (rw (is, lt-ltb count (length held) free) at v.rest);
@@ -125,9 +110,9 @@ module _ {p : Plan} {k : ℕ} {goal : After} {slots room bound : ℕ} where
             small = omega (arith, v.small);
           }
 
-      pub skips_left : {l m : ℕ} {tree' : List ℕ} → p.cell n k ≡ 4 → l ≡ p.left n → m ≡ p.right n → tree' ≡ set tree written (emptied l)
+      pub skips_left : {l m : ℕ} {tree' : List ℕ} → move_of (p.cell n k) ≡ skip_left → l ≡ p.left n → m ≡ p.right n → tree' ≡ set tree written (emptied l)
           → Walking p k goal slots room bound left m label count (written + 1) held tree'
-      unfolding visit_of move_of
+      unfolding visit_of
       skips_left is skips goes noted =
           record {
             rest = rw (noted, goes, skips, Label-is, add-one written) (rw is at v.rest);

@@ -4,3 +4,4 @@ pub mod Machine
 pub mod Ready
 pub mod Settled
 pub mod Steps
+pub mod Results

@@ -5,10 +5,16 @@ use Rattle.book.specs.Form.{DONE}
 use Rattle.running.specs.Running.{Plan, Move, refuse, take_event, go_left, hold_right, skip_left, go_right, move_of}
 use Rattle.running.specs.Running.{emptied, expected, DEEP, UNKNOWN, UNEXPECTED, END, RUNAWAY}
 use Rattle.running.specs.Stages.{Part, part, inside, stage_of, nodes_of}
-use Rattle.reader.specs.declared.Spot.{Spot}
-use Rattle.reader.specs.declared.Stop.{Stop}
 use Rattle.reader.specs.Numbers.{answered, told}
 use Rattle.reader.specs.Reads.{Outcome, outcome}
+
+-- how the machine stands: the answer's number, 0 where it may go on; whether the slots still have the parts held before;
+-- the parts held; the records written
+pub record Spot : Type 0 where
+  pub number : ℕ
+  pub intact : Bool
+  pub count : ℕ
+  pub written : ℕ
 
 -- how the machine stands, with its slots and its tree
 pub record After : Type 0 where
@@ -88,6 +94,15 @@ module _ (p : Plan) (k : ℕ) where
   unfoldable pub event_of : ℕ → ℕ → List ℕ → List ℕ → After
   event_of count written held tree =
       cond (ltb k p.kinds) (take_of count written held tree) (stands UNKNOWN true count written held tree)
+
+-- where the events of a run stop: the refusal's number, 0 at their end; whether the slots still have the parts held
+-- before the event refused; its place, or the run's length; the parts held and the records written before it
+pub record Stop : Type 0 where
+  pub number : ℕ
+  pub intact : Bool
+  pub at : ℕ
+  pub count : ℕ
+  pub written : ℕ
 
 -- where the events of a run stop, with the slots and the tree
 pub record Passed : Type 0 where

@@ -1,19 +1,19 @@
 -- The rules of a sheet stand where its `;` and blanks tell, so a name that comes again is found there.
 use mathlib.Core.Path.{◌≡◌, refl, sym, ap, ◌∙◌}
-use mathlib.Core.Bool.{Bool, true, false, cond, ◌||◌}
-use mathlib.Core.List.{List, [], ◌∷◌, ◌++◌}
+use mathlib.Core.Bool.{Bool, true, false, cond}
+use mathlib.Core.List.{List, [], ◌∷◌}
 use Prim.Native.Nat.{ℕ, zero, suc, ◌+◌, ◌≤◌, ◌<◌}
 use native.Mathlib.Decide.{ℕ_discrete}
 use native.Mathlib.Nat.{add-zero}
 use native.Mathlib.Numerals.{add-one}
 use native.Mathlib.Omega.{arith}
-use borrow.Author.Tests.{leb-true, leb-false, eqb-true, eqb-false, eq-eqb, ne_eqb}
-use lib.Dec.{leb, eqb}
-use lib.ListN.{length, get_or, drop, length-drop, drop_of_length-le}
+use borrow.Author.Tests.{eqb-true, ne_eqb}
+use lib.Dec.{eqb}
+use lib.ListN.{length, get_or, drop, length-drop}
 use lib.Seq.{get_or-drop}
 use mathlib.Core.Logic.{◌⊎◌, inl, inr}
 use Rattle.words.proofs.Tests.{or_cases, never}
-use Rattle.sheets.specs.Text.{letter, blank, Token, word, sign, with_letter, tokens}
+use Rattle.sheets.specs.Text.{blank, Token, word, sign, with_letter, tokens}
 use Rattle.sheets.specs.Grammar.{Expression, Rule, Sort, Rules, no_rules, a_rule}
 use Rattle.sheets.specs.Grammar.{Reads, a_word, an_empty, a_group, plain, a_star, one_factor, further_factor}
 use Rattle.sheets.specs.Grammar.{one_sequence, further_sequence}
@@ -21,7 +21,7 @@ use Rattle.sheets.specs.Nodes.{among}
 use Rattle.sheets.specs.Made.{repeats, repeated_at}
 use Rattle.syntax.proofs.Bytes.{Class, a_letter, a_blank, a_sign, class_of, letter_not_blank, letter_no_other}
 use Rattle.resolving.specs.Letters.{word_at}
-use Rattle.resolving.specs.Lines.{blanks_in, rule_in, past_blanks, past_rule, rule_at, names_before, NewBefore, AgainAt, again, none_again}
+use Rattle.resolving.specs.Lines.{blanks_in, rule_in, past_blanks, past_rule, rule_at, names_before, NewBefore, AgainAt, NoneAgain}
 use Rattle.resolving.proofs.Placed.{drop-next, behind_sign, Placed, placed_word, placed_sign, tokens_placed}
 use Rattle.resolving.proofs.Placed.{reads_told}
 
@@ -253,15 +253,14 @@ module _ (text : List ℕ) where
         go (no other) ih = (new_next n r rules name_is (new.each_new n (omega arith))).0 ∙ ih (omega arith)
 
 -- what the search for a name that comes again finds in a sheet
-module _ {text : List ℕ} {rules : List Rule} (read : Rules (tokens 0 text) rules) {at : ℕ} where
-  pub comes_again : AgainAt text at → at < length text → (repeats [] rules ≡ true) × (repeated_at [] rules ≡ at)
+module _ {text : List ℕ} {rules : List Rule} (read : Rules (tokens 0 text) rules) where
+  pub comes_again : {at : ℕ} → AgainAt text at → (repeats [] rules ≡ true) × (repeated_at [] rules ≡ at)
   unfolding names_before
-  comes_again (again {n} new is within known) below =
-      let found = lined_again text new (sheet_lined text read) (omega arith) (rw is at within) (rw is at known) in
+  comes_again a =
+      let is = a.at_is in
+      let found = lined_again text a.new (sheet_lined text read) (omega arith) (rw is at a.within) (rw is at a.known) in
       (found.0, found.1 ∙ sym is)
-  comes_again (none_again new is end) below = absurd (omega arith)
 
-  pub never_again : AgainAt text at → length text ≤ at → repeats [] rules ≡ false
+  pub never_again : NoneAgain text → repeats [] rules ≡ false
   unfolding names_before
-  never_again (again new is within known) end = absurd (omega arith)
-  never_again (none_again new is end) past = lined_new text new (sheet_lined text read) (omega arith) (rw is at end)
+  never_again a = lined_new text a.new (sheet_lined text read) (omega arith) a.ends

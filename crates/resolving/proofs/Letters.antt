@@ -1,132 +1,110 @@
--- The letters at a place, one by one, and words compared letter by letter.
+-- Walks past the bytes that meet a test: letters, blanks, and what stands before a `;`.
 use mathlib.Core.Path.{◌≡◌, refl, sym, ap, ◌∙◌}
-use mathlib.Core.Bool.{Bool, true, false, cond, ◌&&◌}
+use mathlib.Core.Bool.{Bool, true, false, not}
 use mathlib.Core.List.{List, [], ◌∷◌}
-use Prim.Native.Nat.{ℕ, zero, suc, ◌+◌, ◌-◌, ◌≤◌, ◌<◌}
-use native.Mathlib.Decide.{ℕ_discrete}
-use native.Mathlib.Numerals.{add-one}
+use Prim.Native.Nat.{ℕ, zero, suc, ◌+◌, ◌-◌, ◌≤◌, ◌<◌, min}
 use native.Mathlib.Omega.{arith}
-use borrow.Author.Tests.{leb-true, leb-false, lt-leb, le-leb, eq-eqb, ne_eqb}
-use lib.Dec.{leb, eqb}
-use lib.ListN.{length, get_or, take, drop, length-drop, drop_of_length-le, get_or-eq_default}
+use borrow.Author.Tests.{leb-true, leb-false, ltb-true, ltb-false}
+use lib.Dec.{leb, ltb, eqb}
+use lib.ListN.{length, take, drop, length-drop, drop_of_length-le}
 use lib.Seq.{drop-cons}
-use Rattle.words.specs.Lists.{part_at}
-use Rattle.words.proofs.Tests.{both, joined}
-use Rattle.sheets.specs.Text.{letter, same}
-use Rattle.resolving.specs.Letters.{letters_in, word_at, letter_at}
+use Rattle.sheets.specs.Text.{letter, blank}
+use Rattle.spelling.specs.Places.{byte_at, PastRow}
+use Rattle.resolving.specs.Letters.{letters_in, word_at}
+use Rattle.resolving.specs.Lines.{blanks_in, rule_in, past_blanks, past_rule}
 
--- a letter is 97 to 122
-pub letter_is : (byte : ℕ) → letter byte ≡ true → (97 ≤ byte) × (byte ≤ 122)
-unfolding letter
-letter_is byte test =
-    let (from, to) = both (leb 97 byte) (leb byte 122) test in
-    (leb-true 97 byte from, leb-true byte 122 to)
-
-zero_no_letter : letter 0 ≡ false
-unfolding letter
-zero_no_letter = refl
-
--- there is no letter at a place, or there is one, and others behind it
-pub data Lettered (text : List ℕ) (at : ℕ) : Type 0 where
-  unlettered : letter_at text at ≡ 0 → word_at text at ≡ [] → Lettered text at
-  lettered : 0 < letter_at text at → at < length text → word_at text at ≡ letter_at text at ∷ word_at text (at + 1)
-      → Lettered text at
-
-pub letters_at_lem : (text : List ℕ) (at : ℕ) → Lettered text at
-unfolding word_at letter_at letters_in
-letters_at_lem text at = go (leb (length text) at) refl
-  where
-    with_byte : at < length text → (t : Bool) → letter (get_or text at 0) ≡ t → Lettered text at
-    with_byte below true is =
-        lettered (rw is (omega (arith, letter_is _ is))) below
-        (rw (is, drop-cons text at 0 below, is, add-one))
-    with_byte below false is = unlettered (rw is) (rw (drop-cons text at 0 below, is))
-
-    go : (t : Bool) → leb (length text) at ≡ t → Lettered text at
-    go true is =
-        let past = leb-true (length text) at is in
-        unlettered (rw (get_or-eq_default text 0 past, zero_no_letter)) (rw (drop_of_length-le text past))
-    go false is = with_byte (leb-false (length text) at is) (letter (get_or text at 0)) refl
-
-module _ (text : List ℕ) (at place : ℕ) where
-  -- words with different letters are not the same
-  pub letters_differ : (letter_at text place ≡ letter_at text at → ⊥) → same (word_at text at) (word_at text place) ≡ false
-  unfolding same
-  letters_differ other = go (letters_at_lem text at) (letters_at_lem text place)
+-- what holds of the list from the place on which such a walk begins
+module _ {text : List ℕ} (test : ℕ → Bool) (P : ℕ → List ℕ → Type 0) (none : P 0 [])
+    (stop : (byte : ℕ) (more : List ℕ) → test byte ≡ false → P 0 (byte ∷ more))
+    (step : (n byte : ℕ) (more : List ℕ) → test byte ≡ true → P n more → P (suc n) (byte ∷ more)) where
+  walk : {at to : ℕ} → PastRow text (λ byte meets. meets ≡ test byte) at to → P (to - at) (drop at text)
+  walk {at} {to} p = let low = p.low in go (to - at) at (omega arith) (omega arith)
     where
-      go : Lettered text at → Lettered text place → same (word_at text at) (word_at text place) ≡ false
-      go (unlettered none is) (unlettered none' is') = absurd (other (none' ∙ sym none))
-      go (unlettered none is) (lettered some below is') = rw (is, is')
-      go (lettered some below is) (unlettered none is') = rw (is, is')
-      go (lettered some below is) (lettered some' below' is') = rw (is, is', ne_eqb _ _ (λ e. other (sym e)))
+      ends : (t : Bool) → ltb to (length text) ≡ t → P 0 (drop to text)
+      ends true e =
+          let below = ltb-true to (length text) e in
+          rw (drop-cons text to 0 below) (stop (byte_at text to) _ (sym (p.over below)))
+      ends false e = rw (drop_of_length-le text (ltb-false to (length text) e)) none
 
--- the letter at a place, by the byte there
-module _ (text : List ℕ) (at : ℕ) {byte : ℕ} (is : byte ≡ get_or text at 0) where
-  pub letter_here : letter byte ≡ true → byte ≡ letter_at text at
-  unfolding letter_at
-  letter_here test = rw (← is, test)
+      go : (n from : ℕ) → at ≤ from → from + n ≡ to → P n (drop from text)
+      go zero from low is = let here : from ≡ to = omega arith in rw here (ends (ltb to (length text)) refl)
+      go (suc n) from low is =
+          let one = p.each from low (omega arith) in
+          rw (drop-cons text from 0 one.1) (step n (byte_at text from) _ (sym one.0) (go n (suc from) (omega arith) (omega arith)))
 
-  pub letter_none : letter byte ≡ false → 0 ≡ letter_at text at
-  unfolding letter_at
-  letter_none test = rw (← is, test)
+module _ {text : List ℕ} {from to : ℕ} where
+  -- past the letters a word ends
+  letters_taken : PastRow text (λ byte meets. meets ≡ letter byte) from to → take (to - from) (drop from text) ≡ word_at text from
+  unfolding word_at letters_in
+  letters_taken p =
+      walk letter (λ n l. take n l ≡ letters_in l) refl (λ byte more is. rw is) (λ n byte more is so_far. rw (is, so_far)) p
 
--- where there is no letter there is no word, and where there is one the word goes on
-module _ (text : List ℕ) (at : ℕ) where
-  pub no_letters : letter_at text at ≡ 0 → word_at text at ≡ []
-  no_letters none = go (letters_at_lem text at)
+  pub word_taken : (place : ℕ) → from ≡ min place (length text) → PastRow text (λ byte meets. meets ≡ letter byte) from to
+      → take (to - from) (drop from text) ≡ word_at text place
+  unfolding word_at
+  word_taken place is p = letters_taken p ∙ go (leb (length text) place) refl
     where
-      go : Lettered text at → word_at text at ≡ []
-      go (unlettered none' is) = is
-      go (lettered some below is) = absurd (omega arith)
+      go : (t : Bool) → leb (length text) place ≡ t → word_at text from ≡ word_at text place
+      go true e =
+          let past : length text ≤ place = leb-true _ _ e in
+          let end : from ≡ length text = omega arith in
+          let whole : drop (length text) text ≡ [] = drop_of_length-le text (omega arith) in
+          rw (end, drop_of_length-le text past, whole)
+      go false e =
+          let below = leb-false (length text) place e in
+          let here : from ≡ place = omega arith in
+          rw here
 
-  pub record MoreLetters : Type 0 where
-    pub within : at < length text
-    pub more : word_at text at ≡ letter_at text at ∷ word_at text (at + 1)
+  -- past the blanks
+  pub blanks_passed : PastRow text (λ byte meets. meets ≡ blank byte) from to → to ≡ past_blanks text from
+  unfolding past_blanks blanks_in
+  blanks_passed p =
+      let low = p.low in
+      let n = walk blank (λ n l. n ≡ blanks_in l) refl (λ byte more is. rw is) (λ n byte more is so_far. rw (is, ← so_far)) p in
+      omega arith
 
-  pub more_letters : (letter_at text at ≡ 0 → ⊥) → MoreLetters
-  more_letters some = go (letters_at_lem text at)
-    where
-      go : Lettered text at → MoreLetters
-      go (unlettered none is) = absurd (some none)
-      go (lettered some' below is) = record { within = below; more = is }
+  -- past what stands before a `;`
+  pub by_test : {Meets : ℕ → Bool → Type 0} (test : ℕ → Bool) → ((byte : ℕ) (r : Bool) → Meets byte r → r ≡ test byte)
+      → PastRow text Meets from to → PastRow text (λ byte meets. meets ≡ test byte) from to
+  by_test test says p =
+      record {
+        low = p.low;
+        high = p.high;
+        each = λ k low below. let q = p.each k low below in (says _ _ q.0, q.1);
+        over = λ below. says _ _ (p.over below);
+      }
 
--- words with one letter in common are the same if their rests are
-pub same_rests : (text : List ℕ) (at place : ℕ) → letter_at text place ≡ letter_at text at → (letter_at text at ≡ 0 → ⊥)
-    → same (word_at text (at + 1)) (word_at text (place + 1)) ≡ same (word_at text at) (word_at text place)
-unfolding same
-same_rests text at place is some =
-    rw ((more_letters text at some).more, (more_letters text place (λ none. some (sym is ∙ none))).more, is, eq-eqb (letter_at text at) _ refl)
+  module _ (p : PastRow text (λ byte meets. meets ≡ not (eqb byte 59)) from to) where
+    before_end : (length (drop from text) ≤ to - from → rule_in (drop from text) ≡ to - from)
+        × (to - from < length (drop from text) → rule_in (drop from text) ≡ suc (to - from))
+    unfolding rule_in
+    before_end =
+        walk (λ byte. not (eqb byte 59))
+        (λ n l. (length l ≤ n → rule_in l ≡ n) × (n < length l → rule_in l ≡ suc n))
+        (λ past. refl, λ below. absurd (omega arith))
+        (λ byte more is. (λ past. absurd (omega arith), λ below. rw (ends (eqb byte 59) is)))
+        (λ n byte more is so_far. (
+          λ past. rw (goes (eqb byte 59) is) (ap suc (so_far.0 (omega arith))),
+          λ below. rw (goes (eqb byte 59) is) (ap suc (so_far.1 (omega arith))),
+        ))
+        p
+      where
+        ends : (t : Bool) → not t ≡ false → t ≡ true
+        ends true is = refl
+        ends false is = sym is
 
--- words without letters are the same
-pub same_none : (text : List ℕ) (at place : ℕ) → letter_at text place ≡ letter_at text at → letter_at text at ≡ 0
-    → same (word_at text at) (word_at text place) ≡ true
-unfolding same
-same_none text at place is none = rw (no_letters text at none, no_letters text place (is ∙ none))
+        goes : (t : Bool) → not t ≡ true → t ≡ false
+        goes true is = sym is
+        goes false is = refl
 
--- the letters at a place are that part of the text
-letters_take : (l : List ℕ) → take (length (letters_in l)) l ≡ letters_in l
-unfolding letters_in
-letters_take [] = refl
-letters_take (byte ∷ more) = go (letter byte) (letters_take more)
-  where
-    go : (t : Bool) → take (length (letters_in more)) more ≡ letters_in more
-        → take (length (cond t (byte ∷ letters_in more) [])) (byte ∷ more) ≡ cond t (byte ∷ letters_in more) []
-    go true ih = ap (λ (l : List ℕ). byte ∷ l) ih
-    go false ih = refl
+    pub rule_passed : to < length text → to + 1 ≡ past_rule text from
+    unfolding past_rule
+    rule_passed below =
+        let low = p.low in
+        omega (arith, before_end.1 (omega (arith, length-drop from text)))
 
-letters_fit : (l : List ℕ) → length (letters_in l) ≤ length l
-unfolding letters_in
-letters_fit [] = omega arith
-letters_fit (byte ∷ more) = go (letter byte) (letters_fit more)
-  where
-    go : (t : Bool) → length (letters_in more) ≤ length more → length (cond t (byte ∷ letters_in more) []) ≤ suc (length more)
-    go true ih = omega arith
-    go false ih = omega arith
-
-pub letters_part : (text : List ℕ) (at : ℕ) → part_at text at (length (word_at text at)) ≡ word_at text at
-unfolding word_at
-letters_part text at = letters_take (drop at text)
-
-pub letters_within : (text : List ℕ) (at : ℕ) → 1 ≤ length (word_at text at) → at + length (word_at text at) ≤ length text
-unfolding word_at
-letters_within text at some = omega (arith, letters_fit (drop at text), length-drop at text, some)
+    pub rule_missed : length text ≤ to → to ≡ past_rule text from
+    unfolding past_rule
+    rule_missed past =
+        let low = p.low in
+        omega (arith, before_end.0 (omega (arith, length-drop from text)))

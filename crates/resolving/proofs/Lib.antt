@@ -3,8 +3,4 @@ pub mod Lines
 pub mod Words
 pub mod Placed
 pub mod Again
-pub mod Standing
-pub mod Puts
-pub mod Rows
 pub mod Nodes
-pub mod NodeLines

@@ -1,55 +1,21 @@
--- Going from rule to rule: past blanks, past the next `;`, and the names passed.
-use mathlib.Core.Path.{◌≡◌, refl, sym, ap, ◌∙◌}
+-- Going from rule to rule, and the names passed.
+use mathlib.Core.Path.{◌≡◌, refl, sym, ◌∙◌}
 use mathlib.Core.Bool.{Bool, true, false, cond, ◌||◌}
-use mathlib.Core.List.{List, [], ◌∷◌}
-use Prim.Native.Nat.{ℕ, zero, suc, ◌+◌, ◌-◌, ◌≤◌, ◌<◌}
+use mathlib.Core.List.{List}
+use Prim.Native.Nat.{ℕ, zero, suc, ◌+◌, ◌<◌}
 use native.Mathlib.Decide.{ℕ_discrete}
-use native.Mathlib.Nat.{add-zero}
 use native.Mathlib.Numerals.{add-one}
 use native.Mathlib.Omega.{arith}
-use borrow.Author.Tests.{leb-true, leb-false, eq-eqb, ne_eqb}
-use lib.Dec.{leb, eqb}
-use lib.ListN.{length, get_or, drop, drop_of_length-le}
+use lib.Dec.{eqb}
+use lib.ListN.{length, get_or, drop}
 use lib.Seq.{drop-cons}
-use Rattle.words.proofs.Tests.{or_left, or_right, never}
-use Rattle.sheets.specs.Text.{blank, same}
+use Rattle.words.proofs.Tests.{or_right}
+use Rattle.sheets.specs.Text.{same}
 use Rattle.sheets.specs.Nodes.{among}
-use Rattle.spelling.proofs.Running.{blank_there}
 use Rattle.resolving.specs.Letters.{word_at}
-use Rattle.resolving.specs.Lines.{blanks_in, rule_in, past_blanks, past_rule, rule_at, names_before, NewBefore, AgainAt, again, none_again}
+use Rattle.resolving.specs.Lines.{blanks_in, rule_in, past_blanks, past_rule, rule_at, names_before, NewBefore}
 
 module _ (text : List ℕ) where
-  -- past blanks: a blank is passed, any other byte, or the end, is not
-  module _ (at : ℕ) {byte : ℕ} (is : byte ≡ get_or text at 0) where
-    pub blank-within : blank byte ≡ true → at < length text
-    blank-within test = blank_there text at (rw is at test)
-
-    pub blank_passed : blank byte ≡ true → past_blanks text (at + 1) ≡ past_blanks text at
-    unfolding past_blanks blanks_in
-    blank_passed test = rw (drop-cons text at 0 (blank-within test), ← is, test, add-one) (omega arith)
-
-    pub blanks_stop : blank byte ≡ false → at ≡ past_blanks text at
-    unfolding past_blanks blanks_in
-    blanks_stop test = go (leb (length text) at) refl
-      where
-        go : (t : Bool) → leb (length text) at ≡ t → at ≡ at + blanks_in (drop at text)
-        go true past = rw (drop_of_length-le text (leb-true _ _ past), add-zero)
-        go false below = rw (drop-cons text at 0 (leb-false _ _ below), ← is, test, add-zero)
-
-  module _ {at byte : ℕ} (below : at < length text) (is : byte ≡ get_or text at 0) where
-    -- past a rule: `;` ends it, any other byte is passed
-    pub rule-ends : byte ≡ 59 → past_rule text at ≡ at + 1
-    unfolding past_rule rule_in
-    rule-ends last = rw (drop-cons text at 0 below, ← is, eq-eqb byte 59 last)
-
-    pub rule_goes : (byte ≡ 59 → ⊥) → past_rule text (at + 1) ≡ past_rule text at
-    unfolding past_rule rule_in
-    rule_goes other = rw (drop-cons text at 0 below, ← is, ne_eqb byte 59 other, add-one) (omega arith)
-
-  pub rule_end : {at : ℕ} → length text ≤ at → past_rule text at ≡ at
-  unfolding past_rule rule_in
-  rule_end past = rw (drop_of_length-le text past, add-zero)
-
   -- the next rule begins behind
   pub goes_on : {at : ℕ} → at < length text → at < past_blanks text (past_rule text at)
   unfolding past_blanks past_rule rule_in

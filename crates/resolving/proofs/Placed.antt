@@ -1,12 +1,11 @@
 -- The words of a sheet are the letters that stand at their places.
 use mathlib.Core.Path.{◌≡◌, refl, sym, ap, ◌∙◌}
-use mathlib.Core.Bool.{true, false, cond}
 use mathlib.Core.List.{List, [], ◌∷◌, ◌++◌, append-nil, append_assoc}
 use Prim.Native.Nat.{ℕ, suc}
 use native.Mathlib.Numerals.{add-one}
 use lib.ListN.{drop}
 use lib.Seq.{drop-drop}
-use Rattle.sheets.specs.Text.{letter, blank, Token, word, sign, tokens}
+use Rattle.sheets.specs.Text.{Token, word, sign, tokens}
 use Rattle.sheets.specs.Grammar.{Expression, named, nothing, choice, sequence, starred, Rule, Sort, Rules, no_rules, a_rule}
 use Rattle.sheets.specs.Grammar.{Reads, a_word, an_empty, a_group, plain, a_star, one_factor, further_factor}
 use Rattle.sheets.specs.Grammar.{one_sequence, further_sequence}

@@ -1,21 +1,26 @@
 -- Words looked up among others, and the kinds by first appearance, one node after the other.
-use mathlib.Core.Path.{◌≡◌, refl, sym, subst, ap, ◌∙◌}
+use mathlib.Core.Path.{◌≡◌, refl, sym, ap, ◌∙◌}
 use mathlib.Core.Bool.{Bool, true, false, cond, ◌||◌}
-use mathlib.Core.List.{List, [], ◌∷◌, ◌++◌, append_assoc}
-use Prim.Native.Nat.{ℕ, zero, suc, ◌+◌, ◌*◌, ◌-◌, ◌≤◌, ◌<◌}
-use native.Mathlib.Nat.{add-zero, zero-add, mul-le-mul_left, mul-suc, one-mul}
+use mathlib.Core.List.{List, [], ◌∷◌, ◌++◌, append_assoc, append-nil}
+use Prim.Native.Nat.{ℕ, suc, ◌+◌, ◌≤◌, ◌<◌}
 use native.Mathlib.Numerals.{add-one}
 use native.Mathlib.Omega.{arith}
-use borrow.Author.Tests.{leb-true, leb-false, eq-eqb, ne_eqb}
-use lib.Dec.{leb, eqb}
-use lib.ListN.{length, get_or, set, length-append, length-set}
-use lib.Seq.{get_or-set_same, get_or-set_other}
+use lib.ListN.{length, get_or, set, take, drop, take-append-drop, length-append, length-set, length-take, length-map}
+use Rattle.std.specs.Prelude.{map, is_some, Option, Some, None, MatchOption}
+use Rattle.std.proofs.lemmas.List.{map-append, take_more, take_more_set, take_all}
+use Rattle.std.specs.Option.{unwrap_or}
+use Rattle.std.specs.List.{AllWithin, HoldsAt}
+use Rattle.std.proofs.lemmas.Iterator.{index_from_first}
 use Rattle.words.proofs.Tests.{or_right, never}
+use Rattle.book.specs.declared.Node.{Node}
+use Rattle.book.specs.declared.Node.TheVariants.{Fail, Empty, Token, Either, Then, Tagged, Ref}
 use Rattle.sheets.specs.Text.{same}
 use Rattle.sheets.specs.Nodes.{among, number_of, kinds_after}
 use Rattle.sheets.proofs.Words.{number_below}
+use Rattle.outline.specs.declared.RawNode.{RawNode}
+use Rattle.outline.specs.declared.Row.{Row}
 use Rattle.resolving.specs.Letters.{word_at}
-use Rattle.resolving.specs.Words.{words_at, kinds_at, names_at, word_of_node, words_of_nodes, Collected}
+use Rattle.resolving.specs.Words.{kinds_at, names_at, word_of_node, words_of_nodes, Found, Collected, TooMany}
 
 -- a word with a number below their count is among words, one with a number that is not is none of them
 module _ (w : List ℕ) where
@@ -36,76 +41,53 @@ module _ (w : List ℕ) where
       go true is = absurd (omega (arith, number_below w words is))
       go false is = is
 
-  pub number_past : (words : List (List ℕ)) → among w words ≡ false → length words ≤ number_of w words
-  number_past words none = go (leb (length words) (number_of w words)) refl
+  -- the number of a word that is none of them is their count
+  pub number_all : (words : List (List ℕ)) → among w words ≡ false → number_of w words ≡ length words
+  unfolding number_of among
+  number_all [] none = refl
+  number_all (other ∷ words) none = go (same w other) refl (λ n. number_all words n)
     where
-      go : (t : Bool) → leb (length words) (number_of w words) ≡ t → length words ≤ number_of w words
-      go true is = leb-true _ _ is
-      go false is = never (sym none ∙ number_known words (leb-false _ _ is))
+      go : (t : Bool) → same w other ≡ t → (among w words ≡ false → number_of w words ≡ length words)
+          → number_of w (other ∷ words) ≡ suc (length words)
+      go true is rest = let known : true ≡ false = rw is at none in never (sym known)
+      go false is rest = rw is (ap suc (rest (rw is at none)))
 
-module _ (text places : List ℕ) (apart : ℕ) where
-  pub length_words : (left n : ℕ) → length (words_at text places apart left n) ≡ left
-  unfolding words_at
-  length_words zero n = refl
-  length_words (suc left) n = ap suc (length_words left (suc n))
+  -- a search by place for the first item whose word it is
+  module _ {X : Type 0} (f : X → List ℕ) where
+    pub found_by : (xs : List X) (r : Option ℕ)
+        → MatchOption r (AllWithin (λ x. same w (f x) ≡ false) xs 0 (length xs))
+        (λ i. (i < length xs) × HoldsAt (λ x. same w (f x) ≡ true) xs i × AllWithin (λ x. same w (f x) ≡ false) xs 0 i)
+        → Found w (map f xs) r
+    unfolding number_of
+    found_by xs r gives = go r gives number_is
+      where
+        number_is : number_of w (map f xs) ≡ unwrap_or r (length xs)
+        number_is =
+            index_from_first (λ xs. number_of w (map f xs)) (λ x. same w (f x) ≡ true) (λ x. same w (f x) ≡ false) refl
+            (λ x xs is. rw is) (λ x xs is. rw (is, add-one)) xs r gives
 
-  -- a search for a word among so many has come to n
-  pub record Sought (w : List ℕ) (count n : ℕ) : Type 0 where
-    pub within : n ≤ count
-    pub rest : n + number_of w (words_at text places apart (count - n) n) ≡ number_of w (words_at text places apart count 0)
+        go : (r : Option ℕ)
+            → MatchOption r (AllWithin (λ x. same w (f x) ≡ false) xs 0 (length xs))
+            (λ i. (i < length xs) × HoldsAt (λ x. same w (f x) ≡ true) xs i × AllWithin (λ x. same w (f x) ≡ false) xs 0 i)
+            → number_of w (map f xs) ≡ unwrap_or r (length xs) → Found w (map f xs) r
+        go None gives is = number_unknown (map f xs) (omega (arith, is, length-map xs f))
+        go (Some i) gives is =
+            let below : i < length (map f xs) = omega (arith, gives.0, length-map xs f) in
+            (number_known (map f xs) (omega (arith, is)), sym is, below)
 
-  pub sought_none : (w : List ℕ) (count : ℕ) → Sought w count 0
-  sought_none w count = let all : count - 0 ≡ count = omega arith in record { within = omega arith; rest = rw all (omega arith) }
+-- what a search has found, or has not
+pub found_known : (w : List ℕ) (words : List (List ℕ)) (r : Option ℕ) → Found w words r → is_some r ≡ true → among w words ≡ true
+found_known w words None found some = never some
+found_known w words (Some n) found some = found.0
 
-  module _ {w : List ℕ} {count n : ℕ} (s : Sought w count n) where
-    one_left : n < count → count - n ≡ suc (count - (n + 1))
-    one_left below = omega arith
+pub found_unknown : (w : List ℕ) (words : List (List ℕ)) (r : Option ℕ) → Found w words r → is_some r ≡ false → among w words ≡ false
+found_unknown w words None found none = found
+found_unknown w words (Some n) found none = never (sym none)
 
-    pub sought_here : n < count → same w (word_at text (get_or places (apart * n) 0)) ≡ true
-        → n ≡ number_of w (words_at text places apart count 0)
-    unfolding words_at number_of
-    sought_here below is =
-        let rest : n + 0 ≡ number_of w (words_at text places apart count 0) = rw (one_left below, is) at s.rest in
-        omega (arith, rest)
-
-    pub sought_more : n < count → same w (word_at text (get_or places (apart * n) 0)) ≡ false → Sought w count (n + 1)
-    unfolding words_at number_of
-    sought_more below other =
-        let rest : n + suc (number_of w (words_at text places apart (count - suc n) (suc n))) ≡ number_of w (words_at text places apart count 0)
-        = rw (one_left below, other, add-one) at s.rest in
-        record { within = omega arith; rest = rw add-one (omega (arith, rest)) }
-
-    pub sought_all : count ≤ n → n ≡ number_of w (words_at text places apart count 0)
-    unfolding words_at number_of
-    sought_all past =
-        let none : count - n ≡ 0 = omega arith in
-        let rest : n + 0 ≡ number_of w (words_at text places apart count 0) = rw none at s.rest in
-        omega (arith, rest)
-
--- the place of a word among so many is in the list
-pub place_within : (places : List ℕ) (apart : ℕ) {count n : ℕ} → n < count → 1 ≤ apart → apart * count ≤ length places
-    → apart * n < length places
-place_within places apart {count} {n} below some fits =
-    let next : apart * suc n ≤ apart * count = mul-le-mul_left apart below in
-    omega (arith, next, mul-suc apart n)
-
--- one place more is put down behind so many
-pub words_more : (text places : List ℕ) (place : ℕ) (left n : ℕ) → n + left < length places
-    → words_at text (set places (n + left) place) 1 (suc left) n ≡ words_at text places 1 left n ++ (word_at text place ∷ [])
-unfolding words_at
-words_more text places place zero n fits = rw (one-mul, add-zero n, get_or-set_same places n place 0 (omega arith))
-words_more text places place (suc left) n fits =
-    let next : n + suc left ≡ suc n + left = omega arith in
-    rw (one-mul, get_or-set_other places (n + suc left) n place 0 (λ is. omega arith))
-    (ap (λ (rest : List (List ℕ)). word_at text (get_or places n 0) ∷ rest)
-    (subst
-    (λ (i : ℕ). words_at text (set places i place) 1 (suc left) (suc n) ≡ words_at text places 1 left (suc n) ++ (word_at text place ∷ []))
-    (sym next)
-    (words_more text places place left (suc n) (omega arith))))
-
-pub kinds_more : (text kinds : List ℕ) (place many : ℕ) → many < length kinds
-    → kinds_at text (set kinds many place) (many + 1) ≡ kinds_at text kinds many ++ (word_at text place ∷ [])
-kinds_more text kinds place many fits = rw add-one (rw zero-add at (words_more text kinds place many 0 (omega arith)))
+pub found_or : (w : List ℕ) (words : List (List ℕ)) (r : Option ℕ) {count : ℕ} → Found w words r → length words ≡ count
+    → unwrap_or r count ≡ number_of w words
+found_or w words None found is = sym (number_all w words found ∙ is)
+found_or w words (Some n) found is = found.1
 
 -- the kinds of some words and then of others
 pub kinds_append : (names seen xs ys : List (List ℕ)) → kinds_after names seen (xs ++ ys) ≡ kinds_after names (kinds_after names seen xs) ys
@@ -137,127 +119,118 @@ kinds_grow names seen (w ∷ words) =
     go false is old new = rw is (omega (arith, new, length-append seen (w ∷ [])))
 
 -- a node's word is a kind that is put down, or none is
-module _ (text rows kinds : List ℕ) (rules many place : ℕ) where
+module _ (text : List ℕ) (rows : List Row) (kinds : List ℕ) (many : ℕ) where
   abbrev names : List (List ℕ)
-  names = names_at text rows rules
+  names = names_at text rows
 
   abbrev seen : List (List ℕ)
-  seen = kinds_at text kinds many
-
-  abbrev w : List ℕ
-  w = word_at text place
+  seen = kinds_at text (take many kinds)
 
   kept : {wanted : List (List ℕ)} → wanted ≡ seen → many ≤ 64 → Collected text wanted kinds kinds many
-  kept is fits = record { long = refl; few = λ _. sym is; more = λ over. absurd (omega arith) }
+  kept is fits = record { long = refl; few = fits; are = sym is }
 
   -- the node is no word
-  pub no_word : {sort : ℕ} → (sort ≡ 2 → ⊥) → many ≤ 64
-      → Collected text (kinds_after names seen (word_of_node text sort place)) kinds kinds many
+  pub no_word : (node : Node) (place : ℕ) → ((k : ℕ) → node ≡ Token k → ⊥) → many ≤ 64
+      → Collected text (kinds_after names seen (word_of_node text node place)) kinds kinds many
   unfolding word_of_node kinds_after
-  no_word {sort} other fits = kept (rw (ne_eqb sort 2 other)) fits
+  no_word Fail place other fits = kept refl fits
+  no_word Empty place other fits = kept refl fits
+  no_word (Token k) place other fits = absurd (other k refl)
+  no_word (Either l r) place other fits = kept refl fits
+  no_word (Then l r) place other fits = kept refl fits
+  no_word (Tagged l t) place other fits = kept refl fits
+  no_word (Ref l) place other fits = kept refl fits
 
-  module _ {sort : ℕ} (word : sort ≡ 2) (fits : many ≤ 64) where
+  module _ (k place : ℕ) (fits : many ≤ 64) where
+    abbrev w : List ℕ
+    w = word_at text place
+
     -- the word names a rule, or is a kind that is put down already
-    pub names_rule : {number : ℕ} → number ≡ number_of w names → number < rules
-        → Collected text (kinds_after names seen (word_of_node text sort place)) kinds kinds many
+    pub names_rule : among w names ≡ true → Collected text (kinds_after names seen (word_of_node text (Token k) place)) kinds kinds many
     unfolding word_of_node kinds_after
-    names_rule is below =
-        kept (rw (eq-eqb sort 2 word, number_known w names (omega (arith, is, length_words text rows 2 rules 0)))) fits
+    names_rule is = kept (rw is) fits
 
-    pub seen_kind : {number : ℕ} → number ≡ number_of w seen → number < many
-        → Collected text (kinds_after names seen (word_of_node text sort place)) kinds kinds many
+    pub seen_kind : among w seen ≡ true → Collected text (kinds_after names seen (word_of_node text (Token k) place)) kinds kinds many
     unfolding word_of_node kinds_after
-    seen_kind is below =
-        kept (rw (
-          eq-eqb sort 2 word,
-          or_right (among w names) _
-              (number_known w seen (omega (arith, is, length_words text kinds 1 many 0))),
-        )) fits
+    seen_kind is = kept (rw (or_right (among w names) (among w seen) is)) fits
 
-    module _ {number other : ℕ} (no_rule : number ≡ number_of w names) (past : rules ≤ number) (new : other ≡ number_of w seen)
-        (behind : many ≤ other) where
+    module _ (no_rule : among w names ≡ false) (new : among w seen ≡ false) (long : 64 ≤ length kinds) where
       -- the word is a new kind
-      one_more : kinds_after names seen (word_of_node text sort place) ≡ seen ++ (w ∷ [])
+      one_more : kinds_after names seen (word_of_node text (Token k) place) ≡ seen ++ (w ∷ [])
       unfolding word_of_node kinds_after
-      one_more =
-          rw (
-            eq-eqb sort 2 word,
-            number_unknown w names (omega (arith, no_rule, length_words text rows 2 rules 0)),
-            number_unknown w seen (omega (arith, new, length_words text kinds 1 many 0)),
-          )
+      one_more = rw (no_rule, new)
 
       -- there is no room for it, or it is put down
-      pub no_room : many ≡ 64 → Collected text (kinds_after names seen (word_of_node text sort place)) kinds kinds 65
+      pub no_room : many ≡ 64 → TooMany (kinds_after names seen (word_of_node text (Token k) place))
       no_room full =
-          record {
-            long = refl;
-            few = λ few. absurd (omega arith);
-            more = λ _. rw one_more (omega (arith, length-append seen (w ∷ []), length_words text kinds 1 many 0));
-          }
+          rw one_more (omega (
+            arith,
+            length-append seen (w ∷ []),
+            length-map (take many kinds) (word_at text),
+            length-take many kinds,
+          ))
 
-      pub put_down : (many ≡ 64 → ⊥) → 64 ≤ length kinds
-          → Collected text (kinds_after names seen (word_of_node text sort place)) kinds (set kinds many place) (many + 1)
-      put_down room long =
+      pub put_down : (many ≡ 64 → ⊥)
+          → Collected text (kinds_after names seen (word_of_node text (Token k) place)) kinds (set kinds many place) (many + 1)
+      put_down room =
           record {
             long = length-set kinds many place;
-            few = λ _. rw one_more (kinds_more text kinds place many (omega arith));
-            more = λ over. absurd (omega arith);
+            few = omega arith;
+            are = rw (one_more, take_more_set kinds many place (omega arith)) (map-append (word_at text) (take many kinds) (place ∷ []));
           }
 
--- the kinds of so many nodes are put down
-module _ (text nodes rows : List ℕ) (rules count : ℕ) where
-  abbrev kinds_of_lem : ℕ → ℕ → List (List ℕ) → List (List ℕ)
-  kinds_of_lem left n seen' = kinds_after (names_at text rows rules) seen' (words_of_nodes text nodes left n)
+-- the words of some nodes and of others
+pub words_append : (text : List ℕ) (xs ys : List RawNode) → words_of_nodes text (xs ++ ys) ≡ words_of_nodes text xs ++ words_of_nodes text ys
+unfolding words_of_nodes
+words_append text [] ys = refl
+words_append text (x ∷ xs) ys =
+    rw (words_append text xs ys)
+    (sym (append_assoc (word_of_node text x.node x.place) (words_of_nodes text xs) (words_of_nodes text ys)))
+
+-- the kinds of the nodes before a number are put down
+module _ (text : List ℕ) (nodes : List RawNode) (rows : List Row) where
+  abbrev kinds_of : List RawNode → List (List ℕ)
+  kinds_of some = kinds_after (names_at text rows) [] (words_of_nodes text some)
 
   pub record Collecting (before kinds : List ℕ) (many n : ℕ) : Type 0 where
-    pub within : n ≤ count
     pub few : many ≤ 64
     pub long : length kinds ≡ length before
-    pub rest : kinds_of_lem (count - n) n (kinds_at text kinds many) ≡ kinds_of_lem count 0 []
+    pub are : kinds_at text (take many kinds) ≡ kinds_of (take n nodes)
 
   pub collecting_none : (kinds : List ℕ) → Collecting kinds kinds 0 0
-  unfolding words_at
-  collecting_none kinds =
-      let all : count - 0 ≡ count = omega arith in
-      record { within = omega arith; few = omega arith; long = refl; rest = rw all }
+  unfolding kinds_after words_of_nodes
+  collecting_none kinds = record { few = omega arith; long = refl; are = refl }
 
-  module _ {before kinds after : List ℕ} {many n more : ℕ} (c : Collecting before kinds many n) (below : n < count)
-      (found : Collected text (kinds_after (names_at text rows rules) (kinds_at text kinds many)
-      (word_of_node text (get_or nodes (4 * n) 0) (get_or nodes (4 * n + 3) 0))) kinds after more) where
-    next_kinds : kinds_of_lem (count - suc n) (suc n) (kinds_after (names_at text rows rules) (kinds_at text kinds many)
-        (word_of_node text (get_or nodes (4 * n) 0) (get_or nodes (4 * n + 3) 0))) ≡ kinds_of_lem count 0 []
+  module _ {before kinds : List ℕ} {many n : ℕ} (c : Collecting before kinds many n) (d : RawNode) (below : n < length nodes) where
+    abbrev raw : RawNode
+    raw = get_or nodes n d
+
+    abbrev next_kinds : List (List ℕ)
+    next_kinds = kinds_after (names_at text rows) (kinds_at text (take many kinds)) (word_of_node text raw.node raw.place)
+
+    next_are : next_kinds ≡ kinds_of (take (n + 1) nodes)
     unfolding words_of_nodes
-    next_kinds =
-        let one_left : count - n ≡ suc (count - suc n) = omega arith in
-        sym (kinds_append (names_at text rows rules) (kinds_at text kinds many) _ _) ∙ (rw one_left at c.rest)
+    next_are =
+        rw (c.are, take_more nodes n d below, words_append text (take n nodes) (raw ∷ []), append-nil (word_of_node text raw.node raw.place))
+        (sym (kinds_append (names_at text rows) [] (words_of_nodes text (take n nodes)) (word_of_node text raw.node raw.place)))
 
-    pub collecting_more : more ≤ 64 → Collecting before after more (n + 1)
-    collecting_more few =
-        record {
-          within = omega arith;
-          few = few;
-          long = found.long ∙ c.long;
-          rest = rw (add-one, found.few few) next_kinds;
-        }
+    pub collecting_more : {after : List ℕ} {more : ℕ} → Collected text next_kinds kinds after more → Collecting before after more (n + 1)
+    collecting_more found = record { few = found.few; long = found.long ∙ c.long; are = found.are ∙ next_are }
 
-    pub collecting_stops : 64 < more → Collected text (kinds_of_lem count 0 []) before after more
+    pub collecting_stops : TooMany next_kinds → TooMany (kinds_of nodes)
     collecting_stops over =
-        record {
-          long = found.long ∙ c.long;
-          few = λ few. absurd (omega arith);
-          more = λ _. rw (← next_kinds) (omega (
-            arith,
-            found.more over,
-            kinds_grow (names_at text rows rules)
-                (kinds_after (names_at text rows rules) (kinds_at text kinds many)
-                (word_of_node text (get_or nodes (4 * n) 0) (get_or nodes (4 * n + 3) 0)))
-                (words_of_nodes text nodes (count - suc n) (suc n)),
-          ));
-        }
+        rw (
+          ← take-append-drop (n + 1) nodes,
+          words_append text (take (n + 1) nodes) (drop (n + 1) nodes),
+          kinds_append (names_at text rows) [] (words_of_nodes text (take (n + 1) nodes)) (words_of_nodes text (drop (n + 1) nodes)),
+        )
+        (omega (
+          arith,
+          over,
+          ap length next_are,
+          kinds_grow (names_at text rows) (kinds_of (take (n + 1) nodes)) (words_of_nodes text (drop (n + 1) nodes)),
+        ))
 
-  pub collected_all : {before kinds : List ℕ} {many n : ℕ} → Collecting before kinds many n → count ≤ n
-      → Collected text (kinds_of_lem count 0 []) before kinds many
-  unfolding words_of_nodes kinds_after
-  collected_all {before} {kinds} {many} {n} c past =
-      let none : count - n ≡ 0 = omega arith in
-      record { long = c.long; few = λ _. rw none at c.rest; more = λ over. absurd (omega (arith, c.few)) }
+  pub collected_all : {before kinds : List ℕ} {many n : ℕ} → Collecting before kinds many n → length nodes ≤ n
+      → Collected text (kinds_of nodes) before kinds many
+  collected_all {n = n} c past = record { long = c.long; few = c.few; are = rw (take_all n nodes past) at c.are }

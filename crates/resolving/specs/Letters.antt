@@ -1,5 +1,5 @@
 -- The letters that stand in a text at a place.
-use Rattle.std.specs.Prelude.{ℕ, cond, List, [], ◌∷◌, get_or, drop}
+use Rattle.std.specs.Prelude.{ℕ, cond, List, [], ◌∷◌, drop}
 use Rattle.sheets.specs.Text.{letter}
 
 -- the letters that a list begins with
@@ -10,7 +10,3 @@ letters_in (byte ∷ more) = cond (letter byte) (byte ∷ letters_in more) []
 -- the word at a place: its letters, up to the first byte that is none
 unfoldable pub word_at : List ℕ → ℕ → List ℕ
 word_at text at = letters_in (drop at text)
-
--- the letter at a place, 0 where there is none
-unfoldable pub letter_at : List ℕ → ℕ → ℕ
-letter_at text at = cond (letter (get_or text at 0)) (get_or text at 0) 0

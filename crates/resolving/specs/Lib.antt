@@ -2,4 +2,3 @@ pub mod Letters
 pub mod Lines
 pub mod Words
 pub mod Writing
-pub mod Standing

@@ -36,12 +36,16 @@ module _ (text : List ℕ) where
     pub each_within : (m : ℕ) → m < n → rule_at m < length text
     pub each_new : (m : ℕ) → m < n → among (word_at text (rule_at m)) (names_before m) ≡ false
 
-  -- the place of the first rule whose name an earlier one has, or the end of the text
-  pub data AgainAt : ℕ → Type 0 where
-    again : {n at : ℕ}
-        → NewBefore n
-        → at ≡ rule_at n
-        → at < length text
-        → among (word_at text at) (names_before n) ≡ true
-        → AgainAt at
-    none_again : {n at : ℕ} → NewBefore n → at ≡ rule_at n → length text ≤ at → AgainAt at
+  -- the place of the first rule whose name an earlier one has
+  pub record AgainAt (at : ℕ) : Type 0 where
+    pub number : ℕ
+    pub new : NewBefore number
+    pub at_is : at ≡ rule_at number
+    pub within : at < length text
+    pub known : among (word_at text at) (names_before number) ≡ true
+
+  -- or there is none up to the end of the text
+  pub record NoneAgain : Type 0 where
+    pub number : ℕ
+    pub new : NewBefore number
+    pub ends : length text ≤ rule_at number

@@ -1,9 +1,10 @@
 -- Visits upward and visits of refs: all nodes but refs have lower sides, so that a table visited upward has what the rules give them, and
 -- once refs change nothing, it has all facts.
 use Prim.Native.Nat.{ℕ, ◌+◌, ◌*◌, ◌≤◌, ◌<◌}
-use mathlib.Core.Path.{◌≡◌, refl, sym, ap, ap₂, ◌∙◌, subst}
+use mathlib.Core.Path.{◌≡◌, refl, sym, ap₂, subst}
 use mathlib.Core.Bool.{Bool, true, false, ◌||◌, true≢false, false≢true}
 use mathlib.Core.List.{List}
+use mathlib.Core.Logic.{◌≢◌}
 use native.Mathlib.Decide.{ℕ_discrete}
 use native.Mathlib.Omega.{arith}
 use Rattle.book.specs.Book.{Proper, fail_is, empty_is, token_is, either_is, then_is, tagged_is, ref_is}
@@ -12,7 +13,7 @@ use Rattle.book.specs.declared.Node.TheVariants.{Fail, Empty, Token, Either, The
 use Rattle.rules.specs.declared.NodeFacts.{NodeFacts}
 use Rattle.rules.specs.Facts.{facts_at, Facts}
 use Rattle.rules.specs.Growth.{masks, Sound, Visited, Turned}
-use Rattle.rules.specs.Step.{left_from, either_facts, then_facts, ruled_of, is_ref, FactAt, Given, Holds, SameBelow, PutAt}
+use Rattle.rules.specs.Step.{either_facts, then_facts, ruled_of, is_ref, FactAt, Given, Holds, SameBelow, PutAt}
 use Rattle.rules.specs.Step.{RuleClosed, RefClosed, Climbed}
 use Rattle.rules.proofs.Growing.{grown_none, grown_then}
 use Rattle.rules.proofs.Steps.{rules_put}
@@ -72,23 +73,13 @@ module _ {node : ℕ → Node} where
 
 -- ---- visits of refs
 
--- the rules give a ref the facts of its left
-ref_ruled : (n : ℕ) (at : Node) (facts : ℕ → NodeFacts) → is_ref at ≡ true → ruled_of at facts ≡ facts (left_from n at)
-unfolding ruled_of
-ref_ruled n Fail facts is = absurd (false≢true is)
-ref_ruled n Empty facts is = absurd (false≢true is)
-ref_ruled n (Token k) facts is = absurd (false≢true is)
-ref_ruled n (Either l r) facts is = absurd (false≢true is)
-ref_ruled n (Then l r) facts is = absurd (false≢true is)
-ref_ruled n (Tagged l t) facts is = absurd (false≢true is)
-ref_ruled n (Ref l) facts is = refl
-
 module _ {node : ℕ → Node} where
   -- the facts of its left put at a ref are a visit of it
-  pub ref_visited : {n l : ℕ} {at : Node} {facts : NodeFacts} {before after : List ℕ} {changed : Bool} → Sound masks (FactAt node) before
-      → at ≡ node n → is_ref at ≡ true → l ≡ left_from n at → facts ≡ facts_at before l → PutAt (Given n facts) facts n before after changed
+  pub ref_visited : {n l : ℕ} {facts : NodeFacts} {before after : List ℕ} {changed : Bool} → Sound masks (FactAt node) before
+      → Ref l ≡ node n → facts ≡ facts_at before l → PutAt (Given n facts) facts n before after changed
       → Visited masks (FactAt node) (RefClosed node) n before after changed
-  ref_visited {n} {l} {at} {facts} {before} {after} {changed} sound is ref l-is facts_are put = record {
+  unfolding ruled_of
+  ref_visited {n} {l} {facts} {before} {after} {changed} sound is facts_are put = record {
     grown = ruled-put.grown;
     closed = λ unchanged. record {
       closed = λ same. subst (λ (table : List ℕ). Holds (ruled_of (node n) (facts_at before)) table n) (put.grown.still unchanged) ruled-put.given;
@@ -96,14 +87,20 @@ module _ {node : ℕ → Node} where
   }
     where
       ruled-put : PutAt (FactAt node) (ruled_of (node n) (facts_at before)) n before after changed
-      ruled-put = rules_put sound is (facts_are ∙ ap (facts_at before) l-is ∙ sym (ref_ruled n at (facts_at before) ref)) put
+      ruled-put = rules_put sound is facts_are put
 
   -- a node that is not a ref is passed over
-  pub other_visited : {n : ℕ} {table : List ℕ} → is_ref (node n) ≡ false → Visited masks (FactAt node) (RefClosed node) n table table false
-  other_visited {n} {table} other = record {
-    grown = grown_none table;
-    closed = λ unchanged. record { closed = λ is. absurd (true≢false (sym is ∙ other)) };
-  }
+  pub other_closed : {n : ℕ} (table : List ℕ) (at : Node) → at ≡ node n → ((l : ℕ) → at ≢ Ref l) → RefClosed node table n
+  other_closed {n} table at is other = record { closed = λ ref. absurd (none at (rw is ref) other) }
+    where
+      none : (at : Node) → is_ref at ≡ true → ((l : ℕ) → at ≢ Ref l) → ⊥
+      none Fail ref other = false≢true ref
+      none Empty ref other = false≢true ref
+      none (Token k) ref other = false≢true ref
+      none (Either l r) ref other = false≢true ref
+      none (Then l r) ref other = false≢true ref
+      none (Tagged l t) ref other = false≢true ref
+      none (Ref l) ref other = other l refl
 
   -- a sound table that has what the rules give all nodes but refs, and in which visits of refs changed nothing, has the facts
   pub refs_facts : {kinds count : ℕ} {before after : List ℕ} {changed : Bool} → ((n : ℕ) → n < count → Proper kinds count n (node n))

@@ -14,14 +14,19 @@ use lib.Bits.{or_add_and, and_le_r}
 use Rattle.words.proofs.Tests.{or_cases}
 use Rattle.kinds.specs.Kinds.{Has, joined}
 use Rattle.kinds.proofs.Laws.{has_join, none}
-use Rattle.rules.specs.Growth.{Told, masks, total, GoneOn, went_up, went_down, Sound, Grown, Visited, Turned, visited_at}
+use Rattle.rules.specs.Growth.{Told, masks, total, GoneOn, went_up, went_down, Sound, Grown, Visited, Turned}
 use Rattle.rules.specs.Growth.{Blank, Joined}
+use Rattle.rules.specs.Order.{GivenBy, Order}
 
 -- ---- truth values
 
 pub or_false : (a b : Bool) → (a || b) ≡ false → (a ≡ false) × (b ≡ false)
 or_false true b e = absurd (true≢false e)
 or_false false b e = (refl, e)
+
+pub or_true : (a : Bool) → (a || true) ≡ true
+or_true true = refl
+or_true false = refl
 
 -- ---- growth
 
@@ -76,47 +81,87 @@ module _ {told : Told} where
 
 -- ---- turns
 
--- each step of a turn visits a node below the count
-visited_inside : (count : ℕ) (downward : Bool) (i : ℕ) → i < count → visited_at count downward i < count
-visited_inside count true i below = omega arith
-visited_inside count false i below = below
-
--- the step at which a node is visited is the node that is visited at the step of its number
-visited_back : (count : ℕ) (downward : Bool) (n : ℕ) → n < count → visited_at count downward (visited_at count downward n) ≡ n
-visited_back count true n below = omega arith
-visited_back count false n below = refl
-
--- the first steps of a turn have been made
-pub record Turning (told : Told) (By : ℕ → ℕ → Type 0) (Closed : List ℕ → ℕ → Type 0) (count : ℕ) (downward : Bool)
-    (before after : List ℕ) (i : ℕ) (changed : Bool) : Type 0 where
+-- some nodes have been visited in a turn: the list has grown, and if it has not changed, it is closed at them
+pub record Turning (told : Told) (By : ℕ → ℕ → Type 0) (Closed : List ℕ → ℕ → Type 0) (Done : ℕ → Type 0)
+    (before after : List ℕ) (changed : Bool) : Type 0 where
   pub grown : Grown told By before after changed
-  pub closed : changed ≡ false → (j : ℕ) → j < i → Closed before (visited_at count downward j)
+  pub closed : changed ≡ false → (n : ℕ) → Done n → Closed before n
 
-module _ {told : Told} {By : ℕ → ℕ → Type 0} {Closed : List ℕ → ℕ → Type 0} {count : ℕ} {downward : Bool} where
-  pub turning_none : (list : List ℕ) → Turning told By Closed count downward list list 0 false
-  turning_none list = record { grown = grown_none list; closed = λ e j l. absurd (omega arith) }
+-- the nodes below one
+abbrev pub Below : ℕ → ℕ → Type 0
+Below i n = n < i
 
-  pub turning_more : {before between after : List ℕ} {i n : ℕ} {c d : Bool} → Turning told By Closed count downward before between i c
-      → n ≡ visited_at count downward i → Visited told By Closed n between after d
-      → Turning told By Closed count downward before after (i + 1) (c || d)
-  turning_more {before} {between} {after} {i} {n} {c} {d} turning at visited = record {
+-- the nodes from one on, below a count
+abbrev pub From : ℕ → ℕ → ℕ → Type 0
+From i count n = (i ≤ n) × (n < count)
+
+-- what is given at some of the steps is given at more
+pub given_more : {gives : ℕ → ℕ → Type 0} {few steps n : ℕ} → few ≤ steps → GivenBy gives few n → GivenBy gives steps n
+given_more less (step, below, alone) = (step, omega (arith, less, below), alone)
+
+-- a node that a step more gives, and that is not the one given, is given before
+pub given_before : {gives : ℕ → ℕ → Type 0} {i n : ℕ} → gives i n → (m : ℕ) → GivenBy gives (i + 1) m → m ≢ n → GivenBy gives i m
+given_before {i = i} {n = n} here m (step, below, alone) other = (step, omega (arith, below, last), alone)
+  where
+    last : step ≢ i
+    last same = other (sym (alone n (rw same here)))
+
+-- the steps of a turn in an order, over as many as were counted, give nodes below the count, and all of them
+module _ {may : ℕ → ℕ → Type 0} {gives : ℕ → ℕ → ℕ → Type 0} {count steps : ℕ} (order : Order may gives count) (counted : steps ≡ count) where
+  pub order_below : {step n : ℕ} → step < steps → gives steps step n → n < count
+  order_below {step} {n} inside given = order.below step n (omega (arith, counted, inside)) (rw counted at given)
+
+  pub order_all : {step : ℕ} → steps ≤ step → (n : ℕ) → n < count → GivenBy (gives steps) step n
+  order_all end n below = rw counted (given_more (omega (arith, counted, end)) (order.all n below))
+
+-- the orders from the lowest node and from the highest
+module _ {may : ℕ → ℕ → Type 0} {gives : ℕ → ℕ → ℕ → Type 0} (count : ℕ) (can : (step : ℕ) → step < count → may count step) where
+  pub upward_order : ((step n : ℕ) → gives count step n → n ≡ step) → Order may gives count
+  upward_order is = record {
+    can = can;
+    below = λ step n inside given. omega (arith, is step n given, inside);
+    all = λ n below. (n, below, λ m given. is n m given);
+  }
+
+  pub downward_order : ((step n : ℕ) → gives count step n → n ≡ count - 1 - step) → Order may gives count
+  downward_order is = record {
+    can = can;
+    below = λ step n inside given. omega (arith, is step n given, inside);
+    all = λ n below. (count - 1 - n, omega (arith, below), λ m given. omega (arith, is (count - 1 - n) m given, below));
+  }
+
+module _ {told : Told} {By : ℕ → ℕ → Type 0} {Closed : List ℕ → ℕ → Type 0} {Done : ℕ → Type 0} where
+  pub turning_none : (list : List ℕ) → ((n : ℕ) → Done n → ⊥) → Turning told By Closed Done list list false
+  turning_none list none = record { grown = grown_none list; closed = λ e n done. absurd (none n done) }
+
+  -- a node that was not visited before is
+  pub turning_more : {More : ℕ → Type 0} {before between after : List ℕ} {n : ℕ} {c d : Bool} → Turning told By Closed Done before between c
+      → Visited told By Closed n between after d → ((m : ℕ) → More m → m ≢ n → Done m)
+      → Turning told By Closed More before after (c || d)
+  turning_more {More} {before} {between} {after} {n} {c} {d} turning visited others = record {
     grown = grown_then turning.grown visited.grown;
-    closed = λ e j l. closed j (or_false c d e) (ℕ_discrete j i) l;
+    closed = λ e m more. closed m more (or_false c d e) (ℕ_discrete m n);
   }
     where
-      closed : (j : ℕ) → (c ≡ false) × (d ≡ false) → Dec (j ≡ i) → j < i + 1 → Closed before (visited_at count downward j)
-      closed j (e, f) (yes same) l =
-          subst₂ Closed (turning.grown.still e) (at ∙ ap (visited_at count downward) (sym same)) (visited.closed f)
-      closed j (e, f) (no other) l = turning.closed e j (omega arith)
+      closed : (m : ℕ) → More m → (c ≡ false) × (d ≡ false) → Dec (m ≡ n) → Closed before m
+      closed m more (e, f) (yes same) = subst₂ Closed (turning.grown.still e) (sym same) (visited.closed f)
+      closed m more (e, f) (no other) = turning.closed e m (others m more other)
 
-  pub turning_end : {before after : List ℕ} {i : ℕ} {c : Bool} → Turning told By Closed count downward before after i c → count ≤ i
-      → Turned told By Closed count before after c
-  turning_end {before} turning end = record {
+  -- and a node at which the list is closed is passed over
+  pub turning_past : {More : ℕ → Type 0} {before after : List ℕ} {n : ℕ} {c : Bool} → Turning told By Closed Done before after c
+      → Closed after n → ((m : ℕ) → More m → m ≢ n → Done m) → Turning told By Closed More before after c
+  turning_past {More} {before} {after} {n} {c} turning here others = record {
     grown = turning.grown;
-    closed = λ e n below.
-        subst (Closed before) (visited_back count downward n below)
-        (turning.closed e (visited_at count downward n) (omega (arith, visited_inside count downward n below)));
+    closed = λ e m more. closed m more e (ℕ_discrete m n);
   }
+    where
+      closed : (m : ℕ) → More m → c ≡ false → Dec (m ≡ n) → Closed before m
+      closed m more e (yes same) = subst₂ Closed (turning.grown.still e) (sym same) here
+      closed m more e (no other) = turning.closed e m (others m more other)
+
+  pub turning_end : {count : ℕ} {before after : List ℕ} {c : Bool} → Turning told By Closed Done before after c
+      → ((n : ℕ) → n < count → Done n) → Turned told By Closed count before after c
+  turning_end turning all = record { grown = turning.grown; closed = λ e n below. turning.closed e n (all n below) }
 
 -- ---- turns until one changes nothing
 

@@ -3,6 +3,7 @@ pub mod Reading
 pub mod Laws
 pub mod Bounds
 pub mod Steps
+pub mod Flat
 pub mod Complete
 pub mod Climbing
 pub mod Spreading

@@ -1,11 +1,11 @@
--- What is known of a node that was read from the bytes of good nodes.
+-- What is known of a node that was read from a book.
 use Prim.Native.Nat.{ℕ, ◌<◌}
-use mathlib.Core.Path.{◌≡◌, sym, ◌∙◌}
+use mathlib.Core.Path.{◌≡◌}
 use mathlib.Core.List.{List}
 use native.Mathlib.Omega.{arith}
-use Rattle.book.specs.Book.{Proper, fail_is, empty_is, token_is, either_is, then_is, tagged_is, ref_is}
-use Rattle.book.specs.Decode.{node_at, nodes, GoodNodes}
-use Rattle.book.proofs.Decoded.{nodes_below}
+use Rattle.book.specs.Book.{WellFormed, Proper, fail_is, empty_is, token_is, either_is, then_is, tagged_is, ref_is}
+use Rattle.book.specs.Form.{DONE, form_of, book_of}
+use Rattle.book.proofs.Decoded.{formed, well_formed}
 use Rattle.book.specs.declared.Node.{Node}
 use Rattle.rules.specs.Step.{left_from, right_from, kind_of}
 
@@ -46,25 +46,26 @@ kind_below some (then_is l r) = some
 kind_below some (tagged_is l t) = some
 kind_below some (ref_is l) = some
 
-module _ {bytes : List ℕ} {base count : ℕ} (good : GoodNodes bytes base count 64) {n : ℕ} (below : n < count) {at : Node} (read : at ≡ node_at bytes base n) where
-  pub node_is : at ≡ nodes bytes base count n
-  node_is = read ∙ sym (nodes_below bytes base count n below)
+-- what is known of a node that was read from a book
+module _ (bytes : List ℕ) (good : (form_of bytes).number ≡ DONE) {n : ℕ} (below : n < (book_of bytes).count) {at : Node} (read : at ≡ (book_of bytes).node n) where
+  wf : WellFormed (book_of bytes)
+  wf = well_formed (formed bytes good)
 
-  proper_is : Proper 64 count n at
-  proper_is = rw node_is (good.proper n below)
+  proper_is : Proper (book_of bytes).kinds (book_of bytes).count n at
+  proper_is = rw read (wf.proper n below)
 
-  pub left-inside : left_from n at < count
+  pub left-inside : left_from n at < (book_of bytes).count
   left-inside = left_below below proper_is
 
-  pub right_inside : right_from n at < count
+  pub right_inside : right_from n at < (book_of bytes).count
   right_inside = right_below below proper_is
 
   -- the same with 0 for none
-  pub left_or_zero : left_from 0 at < count
-  left_or_zero = left-within below (omega arith) proper_is
+  pub left_or_zero : left_from 0 at < (book_of bytes).count
+  left_or_zero = left-within below wf.some_node proper_is
 
-  pub right_or_zero : right_from 0 at < count
-  right_or_zero = right_within below (omega arith) proper_is
+  pub right_or_zero : right_from 0 at < (book_of bytes).count
+  right_or_zero = right_within below wf.some_node proper_is
 
   pub kind_inside : kind_of at < 64
-  kind_inside = kind_below (omega arith) proper_is
+  kind_inside = omega (arith, kind_below wf.some_kind proper_is, wf.few_kinds)

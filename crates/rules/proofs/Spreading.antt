@@ -1,24 +1,25 @@
 -- Marks that spread from marked nodes to their children: each stands for a reachable node, and where none is new, all of those are marked.
 use Prim.Native.Nat.{ℕ, ◌+◌, ◌*◌, ◌/◌, ◌%◌, ◌≤◌, ◌<◌}
 use mathlib.Core.Path.{◌≡◌, refl, sym, ◌∙◌, subst}
-use mathlib.Core.Bool.{Bool, true, false, ◌||◌}
+use mathlib.Core.Bool.{Bool, true, false, ◌||◌, true≢false, false≢true}
 use mathlib.Core.List.{List}
 use mathlib.Core.Logic.{◌↔◌, ⊎_elim}
 use native.Mathlib.Omega.{arith}
-use native.Mathlib.Decide.{ℕ_discrete}
 use lib.ListN.{length}
 use Rattle.kinds.specs.Kinds.{Has, only_kind}
 use Rattle.kinds.proofs.Laws.{has?_is, has_single}
-use Rattle.book.specs.Book.{Proper}
-use Rattle.book.specs.Decode.{node_at, nodes, GoodNodes}
+use Rattle.book.specs.Book.{Book, WellFormed, Proper}
+use Rattle.book.specs.Form.{DONE, form_of, book_of}
+use Rattle.book.proofs.Decoded.{formed, well_formed}
 use Rattle.book.specs.declared.Node.{Node}
 use Rattle.book.specs.declared.Node.TheVariants.{Fail, Empty, Token, Either, Then, Tagged, Ref}
 use Rattle.grammar.specs.Rules.{Child, either_left, either_right, then_left, then_right, tagged_left, ref_left, Reach, r_start, r_child}
 use Rattle.rules.specs.Facts.{marks_size, marked?, IsMarked, AllMarked, Reached}
 use Rattle.rules.specs.Growth.{masks, Sound, Blank, Joined, Grown, Turned}
-use Rattle.rules.specs.Step.{left_from, right_from, ReachAt, ChildClosed, Spread}
-use Rattle.rules.proofs.Growing.{or_false, grown_none, grown_then, grown_sound, blank_sound, joined-grown, joined_has, joined_held}
-use Rattle.rules.proofs.Reading.{node_is, left-inside, right_inside}
+use Rattle.rules.specs.Step.{left_from, right_from, ReachAt, ChildClosed, Spread, SpreadAll}
+use Rattle.rules.proofs.Growing.{or_false, grown_then, grown_sound, blank_sound, joined-grown, joined_has, joined_held}
+use Rattle.rules.proofs.Growing.{Settling, settling_more}
+use Rattle.rules.proofs.Reading.{left-inside, right_inside}
 use Rattle.rules.proofs.Bounds.{child_side, reach_within}
 
 -- ---- marks
@@ -26,6 +27,9 @@ use Rattle.rules.proofs.Bounds.{child_side, reach_within}
 -- the test of a mark decides
 pub marked_is : (marks : List ℕ) (n : ℕ) → (marked? marks n ≡ true) ↔ IsMarked marks n
 marked_is marks n = ((λ e. record { mark = (has?_is _ _).0 e }), (λ marked. (has?_is _ _).1 marked.mark))
+
+pub told_marked : {marks : List ℕ} {n : ℕ} {told : Bool} → told ≡ marked? marks n → told ≡ true → IsMarked marks n
+told_marked {marks} {n} is on = (marked_is marks n).0 (sym is ∙ on)
 
 module _ {before after : List ℕ} {n : ℕ} {changed : Bool} (inside : n / 64 < length before)
     (joined : Joined before after (n / 64) (only_kind (n % 64)) changed) where
@@ -89,27 +93,30 @@ module _ {node : ℕ → Node} {start n : ℕ} (reach : Reach node start n) wher
   reach_right (Ref l) is = reach
 
 -- a marked node that was read, whose left and right have been marked
-module _ {bytes : List ℕ} {base count n l r : ℕ} {at : Node} {before between after : List ℕ} {c d : Bool}
-    (good : GoodNodes bytes base count 64) (below : n < count) (read : at ≡ node_at bytes base n) (room : marks_size ≤ length before)
+module _ (bytes : List ℕ) {n l r : ℕ} {at : Node} {before between after : List ℕ} {c d : Bool} (good : (form_of bytes).number ≡ DONE)
+    (below : n < (book_of bytes).count) (read : at ≡ (book_of bytes).node n) (room : marks_size ≤ length before)
     (here : IsMarked before n) (l-is : l ≡ left_from n at) (left : Joined before between (l / 64) (only_kind (l % 64)) c)
     (r-is : r ≡ right_from n at) (right : Joined between after (r / 64) (only_kind (r % 64)) d) where
-  is : nodes bytes base count n ≡ at
-  is = sym (node_is good below read)
+  is : (book_of bytes).node n ≡ at
+  is = sym read
+
+  few : (book_of bytes).count ≤ 512
+  few = (well_formed (formed bytes good)).few_nodes
 
   l_in : l / 64 < length before
-  l_in = omega (arith, left-inside good below read, good.few_nodes)
+  l_in = omega (arith, left-inside bytes good below read, few)
 
-  module _ (start : ℕ) (sound : Sound masks (ReachAt (nodes bytes base count) start) before) where
-    first : Grown masks (ReachAt (nodes bytes base count) start) before between c
+  module _ (start : ℕ) (sound : Sound masks (ReachAt (book_of bytes).node start) before) where
+    first : Grown masks (ReachAt (book_of bytes).node start) before between c
     first = mark_grown l_in left (rw l-is (reach_left (marked_reach sound here) at is))
 
     r_in : r / 64 < length between
-    r_in = omega (arith, right_inside good below read, good.few_nodes, first.long)
+    r_in = omega (arith, right_inside bytes good below read, few, first.long)
 
-    second : Grown masks (ReachAt (nodes bytes base count) start) between after d
+    second : Grown masks (ReachAt (book_of bytes).node start) between after d
     second = mark_grown r_in right (rw r-is (reach_right (marked_reach sound here) at is))
 
-    closed : (c || d) ≡ false → (m : ℕ) → Child (nodes bytes base count n) m → IsMarked before m
+    closed : (c || d) ≡ false → (m : ℕ) → Child ((book_of bytes).node n) m → IsMarked before m
     closed unchanged m child =
         let (e, f) = or_false c d unchanged in
         ⊎_elim
@@ -117,7 +124,7 @@ module _ {bytes : List ℕ} {base count n l r : ℕ} {at : Node} {before between
         (λ same. subst (IsMarked before) (r-is ∙ same) (rw (first.still e) at (mark_held r_in right f)))
         (child_side n (rw is at child))
 
-  pub children_spread : Spread (nodes bytes base count) n before after (c || d)
+  pub children_spread : Spread (book_of bytes).node n before after (c || d)
   children_spread = record {
     from = λ start sound. record {
       grown = grown_then (first start sound) (second start sound);
@@ -126,24 +133,17 @@ module _ {bytes : List ℕ} {base count n l r : ℕ} {at : Node} {before between
   }
 
 -- a node that is not marked has nothing to spread
-pub none_spread : {node : ℕ → Node} {marks : List ℕ} {n : ℕ} → (IsMarked marks n → ⊥) → Spread node n marks marks false
-none_spread {node} {marks} unmarked = record {
-  from = λ start sound. record {
-    grown = grown_none marks;
-    closed = λ unchanged. record { children = λ m child marked. absurd (unmarked marked) };
-  };
+pub unmarked_closed : {node : ℕ → Node} {marks : List ℕ} {n : ℕ} {told : Bool} → told ≡ marked? marks n → told ≡ false → ChildClosed node marks n
+unmarked_closed {marks = marks} {n = n} is off = record {
+  children = λ m child marked. absurd (true≢false (sym ((marked_is marks n).1 marked) ∙ sym is ∙ off));
 }
 
 -- ---- all nodes
 
--- one node more is marked
-pub marked_more : (marks : List ℕ) (n : ℕ) {marked : Bool} → AllMarked marks n → marked ≡ marked? marks n → marked ≡ true
-    → AllMarked marks (n + 1)
-marked_more marks n before is told m below = go (ℕ_discrete m n)
-  where
-    go : Dec (m ≡ n) → IsMarked marks m
-    go (yes e) = rw e ((marked_is marks n).0 (sym is ∙ told))
-    go (no f) = before m (omega arith)
+-- marks that stand for reachable nodes do so after a turn
+pub spread_more : {node : ℕ → Node} {start count : ℕ} {first before after : List ℕ} {changed : Bool}
+    → Settling masks (ReachAt node start) first before → SpreadAll node count before after changed → Settling masks (ReachAt node start) first after
+spread_more settling spread = settling_more settling (spread.from _ settling.sound).grown
 
 -- where all nodes are marked, and all marks stand for reachable nodes, the marks have the reachable nodes
 pub all_reached : {node : ℕ → Node} {start count : ℕ} {marks : List ℕ} → Sound masks (ReachAt node start) marks → AllMarked marks count
@@ -162,3 +162,12 @@ module _ {node : ℕ → Node} {kinds start count : ℕ} (proper : (n : ℕ) →
       marked : {n : ℕ} → Reach node start n → IsMarked before n
       marked r_start = started
       marked (r_child {n = n} {m = m} reach child) = (turned.closed unchanged n (reach_within proper start_below reach)).children m child (marked reach)
+
+-- so it is once the start was marked and turns have been made, the last of which changed nothing
+pub spread_end : {book : Book} {first before after : List ℕ} {changed : Bool} → WellFormed book → IsMarked first book.start
+    → Settling masks (ReachAt book.node book.start) first before → SpreadAll book.node book.count before after changed → changed ≡ false
+    → Reached book.node book.start book.count after × (false ≡ true → AllMarked after book.count)
+spread_end wf started settling spread still = (
+  turned_reached wf.proper wf.start_below settling.sound (record { mark = settling.keeps _ _ started.mark }) (spread.from _ settling.sound) still,
+  λ is. absurd (false≢true is),
+)

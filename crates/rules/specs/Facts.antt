@@ -1,15 +1,20 @@
 -- The facts of a book's nodes as sets of kinds, and the reachable nodes as sets of numbers.
-use Rattle.std.specs.Prelude.{ℕ, ◌+◌, ◌*◌, ◌/◌, ◌%◌, ◌<◌, Bool, List, ◌↔◌, get_or}
+use Rattle.std.specs.Prelude.{ℕ, ◌+◌, ◌*◌, ◌/◌, ◌%◌, ◌<◌, Bool, List, [], ◌∷◌, ◌↔◌, get_or}
 use Rattle.kinds.specs.Kinds.{Has, has?}
 use Rattle.book.specs.declared.Node.{Node}
 use Rattle.grammar.specs.Rules.{Productive, Nullable, First, Snf, Reach}
 use Rattle.rules.specs.declared.NodeFacts.{NodeFacts}
 
--- how many numbers a table of facts for so many nodes has: four a node
+-- how many numbers the table of facts for so many nodes has: four a node
 abbrev pub table_size : ℕ → ℕ
 table_size count = 4 * count
 
--- the facts that stand in a table for a node
+-- a table's numbers, four a node
+unfoldable pub flat : List NodeFacts → List ℕ
+flat [] = []
+flat (facts ∷ more) = facts.productive ∷ facts.nullable ∷ facts.first ∷ facts.snf ∷ flat more
+
+-- the facts that stand in a table's numbers for a node
 abbrev pub facts_at : List ℕ → ℕ → NodeFacts
 facts_at table n = record {
   productive = get_or table (4 * n) 0;

@@ -1,5 +1,5 @@
 -- A list of numbers that go one way only, up or down, each telling a set that only grows: masks are sets of kinds.
-use Rattle.std.specs.Prelude.{ℕ, ◌+◌, ◌-◌, ◌≤◌, ◌<◌, ◌≡◌, Bool, true, false, not, cond, List, [], ◌∷◌, ◌⊎◌, eqb, length, get_or, set}
+use Rattle.std.specs.Prelude.{ℕ, ◌+◌, ◌^◌, ◌≤◌, ◌<◌, ◌≡◌, Bool, true, false, not, List, [], ◌∷◌, ◌⊎◌, eqb, length, get_or, set}
 use Rattle.kinds.specs.Kinds.{Has, joined}
 
 -- how a number tells a set: what it tells, the number that tells nothing, and whether numbers go up as their sets grow
@@ -49,9 +49,9 @@ module _ (told : Told) where
     pub grown : Grown By before after changed
     pub closed : changed ≡ false → (n : ℕ) → n < count → Closed before n
 
--- the node visited at a step of a turn, downward or upward
-abbrev pub visited_at : ℕ → Bool → ℕ → ℕ
-visited_at count downward i = cond downward (count - 1 - i) i
+-- the numbers of a list are 64-bit numbers
+abbrev pub Narrow : List ℕ → Type 0
+Narrow list = (i : ℕ) → get_or list i 0 < 2 ^ 64
 
 -- a list of empty sets, of a length at least
 pub record Blank (least : ℕ) (sets : List ℕ) : Type 0 where

@@ -1,3 +1,4 @@
 pub mod Facts
 pub mod Growth
 pub mod Step
+pub mod Order

@@ -1,5 +1,5 @@
 -- The rules as a step: what a table's facts of its left and right give a node, and what a mark gives its children.
-use Rattle.std.specs.Prelude.{ℕ, zero, suc, ◌+◌, ◌*◌, ◌/◌, ◌%◌, ◌<◌, ◌≡◌, Bool, true, false, List, get_or}
+use Rattle.std.specs.Prelude.{ℕ, zero, suc, ◌+◌, ◌*◌, ◌/◌, ◌%◌, ◌^◌, ◌<◌, ◌≡◌, Bool, true, false, List, get_or}
 use Rattle.kinds.specs.Kinds.{Has, every_kind, only_kind, joined, in_both}
 use Rattle.book.specs.declared.Node.{Node}
 use Rattle.book.specs.declared.Node.TheVariants.{Fail, Empty, Token, Either, Then, Tagged, Ref}
@@ -37,6 +37,15 @@ kind_of (Either l r) = 0
 kind_of (Then l r) = 0
 kind_of (Tagged l t) = 0
 kind_of (Ref l) = 0
+
+-- the facts of a node joined with more
+abbrev pub joined_facts : NodeFacts → NodeFacts → NodeFacts
+joined_facts old more = record {
+  productive = joined old.productive more.productive;
+  nullable = joined old.nullable more.nullable;
+  first = joined old.first more.first;
+  snf = joined old.snf more.snf;
+}
 
 -- what the rules give an either by the facts of its left and right
 abbrev pub either_facts : NodeFacts → NodeFacts → NodeFacts
@@ -91,6 +100,10 @@ Fact node at (suc zero) k = Nullable node at
 Fact node at (suc (suc zero)) k = First node at k
 Fact node at (suc (suc (suc more))) k = Snf node at k
 
+-- the four facts are 64-bit numbers
+abbrev pub NarrowFacts : NodeFacts → Type 0
+NarrowFacts facts = (j : ℕ) → fact_of facts j < 2 ^ 64
+
 -- the kind belongs at a place of the table: four places a node
 pub record FactAt (node : ℕ → Node) (i k : ℕ) : Type 0 where
   pub fact : Fact node (node (i / 4)) (i % 4) k
@@ -114,10 +127,6 @@ pub record PutAt (By : ℕ → ℕ → Type 0) (facts : NodeFacts) (n : ℕ) (be
   pub given : Holds facts after n
   pub lower : SameBelow n before after
 
--- what the rules give a node has been put into a table that has facts of the book alone
-abbrev pub RulesPut : (ℕ → Node) → ℕ → List ℕ → List ℕ → Bool → Type 0
-RulesPut node n before after changed = PutAt (FactAt node) (ruled_of (node n) (facts_at before)) n before after changed
-
 -- the table has what the rules give a node
 abbrev pub RuleClosed : (ℕ → Node) → List ℕ → ℕ → Type 0
 RuleClosed node table n = Holds (ruled_of (node n) (facts_at table)) table n
@@ -126,10 +135,7 @@ RuleClosed node table n = Holds (ruled_of (node n) (facts_at table)) table n
 pub record RefClosed (node : ℕ → Node) (table : List ℕ) (n : ℕ) : Type 0 where
   pub closed : is_ref (node n) ≡ true → RuleClosed node table n
 
--- a ref has been visited, and all refs below a count
-abbrev pub RefVisited : (ℕ → Node) → ℕ → List ℕ → List ℕ → Bool → Type 0
-RefVisited node = Visited masks (FactAt node) (RefClosed node)
-
+-- all refs below a count have been visited
 abbrev pub RefsTurned : (ℕ → Node) → ℕ → List ℕ → List ℕ → Bool → Type 0
 RefsTurned node = Turned masks (FactAt node) (RefClosed node)
 

@@ -1,20 +1,20 @@
 -- How long the lines are that the compiler's answer takes.
-use Prim.Native.Nat.{ℕ, ◌+◌, ◌*◌, ◌≤◌, ◌<◌, ◌^◌}
+use Prim.Native.Nat.{ℕ, ◌+◌, ◌≤◌, ◌<◌, ◌^◌}
 use native.Mathlib.Omega.{arith}
 use mathlib.Core.Path.{◌≡◌, refl}
 use mathlib.Core.Bool.{Bool, true, false, ◌&&◌, not, cond}
-use mathlib.Core.List.{List, [], ◌++◌}
+use mathlib.Core.List.{List, []}
 use lib.Dec.{eqb}
 use lib.ListN.{length, length-append}
 use Rattle.kinds.specs.Kinds.{has?}
 use Rattle.book.specs.Form.{DONE, book_of}
 use Rattle.verdict.specs.Judges.{CONFLICT}
 use Rattle.lines.specs.Text.{text}
-use Rattle.lines.proofs.Laws.{spaced_at_most}
+use Rattle.prints.proofs.Digits.{spaced_at_most}
 use Rattle.prints.proofs.Lists.{lists_short}
 use Rattle.marks.proofs.Short.{place_short, mark_short}
-use Rattle.told.specs.Told.{NamedBook, KindIn, name_text}
-use Rattle.told.proofs.Laws.{name_short, kind_below}
+use Rattle.told.specs.Told.{NamedBook, name_text}
+use Rattle.told.proofs.Laws.{name_short}
 use Rattle.book.proofs.Decoded.{formed, well_formed}
 use Rattle.compiler.specs.declared.Compiled.{Compiled}
 use Rattle.said.specs.Said.{passes_line, where_text, clash_name, clash_names, clash_text, more_text, refused_lines, said_lines, said_room}

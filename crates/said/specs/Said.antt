@@ -1,12 +1,13 @@
 -- What the compiler says of a sheet's book, in words: that it passes, or where on the sheet it is refused.
-use Rattle.std.specs.Prelude.{ℕ, ◌+◌, ◌*◌, Bool, ◌&&◌, not, cond, List, [], ◌++◌, eqb, length}
+use Rattle.std.specs.Prelude.{ℕ, ◌+◌, ◌*◌, Bool, ◌&&◌, not, cond, List, [], ◌++◌, eqb}
 use Rattle.words.specs.Lists.{lists_from}
 use Rattle.kinds.specs.Kinds.{has?}
 use Rattle.book.specs.Form.{DONE, book_of}
 use Rattle.verdict.specs.Judges.{CONFLICT}
 use Rattle.compiler.specs.declared.Compiled.{Compiled}
 use Rattle.lines.specs.Text.{text}
-use Rattle.lines.specs.Lines.{refused, spaced, line_feed}
+use Rattle.prints.specs.Digits.{spaced}
+use Rattle.lines.specs.Lines.{refused, line_feed}
 use Rattle.marks.specs.Marks.{place_text, mark_lines}
 use Rattle.told.specs.Told.{name_text}
 

@@ -1,2 +1,3 @@
 pub mod Samples
+pub mod Errors
 pub mod Given

@@ -1,11 +1,13 @@
 -- Laws of what is written for a sheet: where it goes wrong, that its book has names, and how long the lines are.
-use Prim.Native.Nat.{ℕ, ◌+◌, ◌≤◌, ◌<◌, ◌^◌}
+use Prim.Native.Nat.{ℕ, ◌≤◌, ◌<◌, ◌^◌}
 use native.Mathlib.Omega.{arith}
 use mathlib.Core.Path.{◌≡◌, refl, ap}
 use mathlib.Core.Logic.{◌⊎◌, inl, inr}
 use mathlib.Core.Bool.{◌||◌, cond}
 use mathlib.Core.List.{List, [], ◌++◌}
 use lib.Dec.{eqb}
+use borrow.Author.Tests.{ne_eqb}
+use mathlib.Core.Logic.{◌≢◌}
 use lib.ListN.{length, take, length-append}
 use Rattle.written.specs.Written.{Out, taken, OUT-ROOM}
 use Rattle.book.specs.declared.Judged.{Judged}
@@ -26,11 +28,13 @@ use Rattle.compiler.specs.Compiles.{PLAN-ROOM, Compiles, refused, no_room, done}
 use Rattle.compiler.proofs.Promise.{answer_listed, size-most}
 use Rattle.lines.specs.Text.{text}
 use Rattle.lines.specs.Lines.{Put}
-use Rattle.lines.proofs.Laws.{put-length, put-taken, put_rest, spaced_at_most}
+use Rattle.prints.proofs.Digits.{spaced_at_most}
+use Rattle.lines.proofs.Laws.{adds_whole, put-length, put-taken, put_rest}
 use Rattle.listed.specs.Listing.{longest_book}
 use Rattle.marks.specs.Marks.{place_text}
 use Rattle.marks.proofs.Short.{place_short}
-use Rattle.prints.specs.Prints.{Adds}
+use Rattle.prints.specs.declared.Page.{Page}
+use Rattle.prints.specs.Pages.{Added}
 use Rattle.stands.specs.declared.Stand.TheVariants.{NameDue}
 use Rattle.stands.specs.Stands.{stood, stand_of, due_text, advanced}
 use Rattle.stands.proofs.Laws.{due_told}
@@ -38,7 +42,7 @@ use Rattle.stands.proofs.Short.{either_short, due_short}
 use Rattle.told.specs.Told.{NamedBook}
 use Rattle.told.proofs.Laws.{book_short}
 use Rattle.said.proofs.Short.{Small, said_short}
-use Rattle.shown.specs.Shown.{sheet_room, out_room, reason_text, where_placed, refusal_line, book_text, Shows, Wrong, Shown}
+use Rattle.shown.specs.Shown.{sheet_room, out_room, reason_text, where_placed, refusal_line, book_text, Shows, Wrong, AddedShow, Shown}
 
 module _ (sheet : List ℕ) {o : Out} (makes : Makes sheet longest_book o) where
   -- a book that is made has names
@@ -73,12 +77,12 @@ module _ (sheet : List ℕ) {o : Out} (makes : Makes sheet longest_book o) where
       go (inr (lacks, here)) = rw here (lacks_wrong sheet lacks)
 
 -- what is due behind the bytes before the place where a sheet goes wrong
-pub adds_due : {out end : List ℕ} {at last : ℕ} (sheet : List ℕ) (found : ℕ) {front : List ℕ}
+pub added_due : {page end : Page} (sheet : List ℕ) (found : ℕ) {front : List ℕ}
     → front ≡ take found sheet
     → read_sheet sheet ≡ wrong found
-    → Adds out end at last (due_text (advanced front NameDue))
-    → Adds out end at last (due_text (stand_of (stood sheet (name_due []) 0)))
-adds_due sheet found is e p = rw (is, due_told sheet found e) at p
+    → Added page end (due_text (advanced front NameDue))
+    → Added page end (due_text (stand_of (stood sheet (name_due []) 0)))
+added_due sheet found is e p = rw (is, due_told sheet found e) at p
 
 module _ {bytes : List ℕ} (form : (form_of bytes).number ≡ DONE) where
   -- the node that is judged is one of the book's
@@ -110,11 +114,29 @@ module _ {bytes : List ℕ} (form : (form_of bytes).number ≡ DONE) where
       listed (inr (inl is)) = omega arith
       listed (inr (inr is)) = omega arith
 
+-- of another refusal no reason is told
+pub no_reason : (sheet : List ℕ) (number : ℕ) → number ≢ SHEET → number ≢ TWICE → number ≢ BIG → number ≢ KINDLESS
+    → reason_text sheet number ≡ []
+unfolding reason_text
+no_reason sheet number a b c d = rw (ne_eqb number SHEET a, ne_eqb number TWICE b, ne_eqb number BIG c, ne_eqb number KINDLESS d)
+
 -- an output into which what the program writes was put
 pub put_shown : {sheet out end bytes : List ℕ} {last : ℕ} → Put out end 0 last bytes → Shows sheet bytes → Shown sheet out end last
 put_shown {end = end} {last = last} p shows =
     let room : last ≤ length end = omega (arith, put-length p, p.within) in
     record { within = room; shows = rw (put-taken p) shows; rest = put_rest p }
+
+-- an output over which a page was written from its start on
+pub page_shown : {sheet out end : List ℕ} {last : ℕ} {before after : Page}
+    → before.out.now ≡ out
+    → before.at ≡ 0
+    → end ≡ after.out.now
+    → last ≡ after.at
+    → out_room ≤ length out
+    → AddedShow sheet before after
+    → Shown sheet out end last
+page_shown {before = before} was blank is long room a =
+    put_shown (rw (is, long, ← was) (adds_whole (omega (arith, a.short, ap (λ (l : List ℕ). length l) was)) (rw blank at a.added.adds))) a.shows
 
 -- ---- how long the lines are
 

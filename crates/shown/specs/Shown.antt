@@ -9,7 +9,10 @@ use Rattle.making.specs.Makes.{Makes, Places}
 use Rattle.compiler.specs.declared.Compiled.{Compiled}
 use Rattle.compiler.specs.Compiles.{Compiles}
 use Rattle.lines.specs.Text.{text}
-use Rattle.lines.specs.Lines.{Put, refused, spaced, line_feed, input_too_long}
+use Rattle.prints.specs.declared.Page.{Page}
+use Rattle.prints.specs.Digits.{spaced}
+use Rattle.prints.specs.Pages.{Added}
+use Rattle.lines.specs.Lines.{refused, line_feed, input_too_long}
 use Rattle.listed.specs.Listing.{longest_book, plan_room, ReadInto}
 use Rattle.marks.specs.Marks.{place_text}
 use Rattle.stands.specs.Stands.{stood, stand_of, due_text}
@@ -68,27 +71,34 @@ pub data Shows (sheet : List ℕ) : List ℕ → Type 0 where
 pub record Wrong (sheet : List ℕ) (number place : ℕ) : Type 0 where
   pub at_place : number ≡ SHEET → read_sheet sheet ≡ wrong place
 
--- the buffers lent to compile a book and to tell it, of a sheet that is not too long
-pub record BookLent (sheet out book plan : List ℕ) : Type 0 where
+-- what is lent to compile a book and to tell it, of a sheet that is not too long
+pub record BookLent (sheet book plan : List ℕ) : Type 0 where
   pub short : length sheet ≤ sheet_room
-  pub output : out_room ≤ length out
   pub formed : NamedBook book
   pub cells : length plan ≡ plan_room
 
--- the front of an output, so many bytes, is what is told of a book and what the compiler says of it
-pub record BookSaid (sheet book before after : List ℕ) (count : ℕ) : Type 0 where
+-- what is told of a book and what the compiler says of it is added to a page, and has room in an output that always
+-- suffices
+pub record AddedBook (sheet book : List ℕ) (before after : Page) : Type 0 where
   pub answer : Compiled
   pub plan : List ℕ
   pub from : Written
   pub compiled : Compiles book plan_room answer plan
   pub placed : Places sheet answer.place from
-  pub told : Put before after 0 count (book_text sheet book answer from.place)
+  pub short : length (book_text sheet book answer from.place) ≤ out_room
+  pub told : Added before after (book_text sheet book answer from.place)
 
--- the buffers lent, each of its size, and an output that always suffices
-pub record Lent (out book plan : List ℕ) : Type 0 where
-  pub output : out_room ≤ length out
+-- the buffers lent, each of its size
+pub record Lent (book plan : List ℕ) : Type 0 where
   pub bytes : length book ≡ longest_book
   pub cells : length plan ≡ plan_room
+
+-- what the program writes for a sheet is added to a page, and has room in an output that always suffices
+pub record AddedShow (sheet : List ℕ) (before after : Page) : Type 0 where
+  pub bytes : List ℕ
+  pub shows : Shows sheet bytes
+  pub short : length bytes ≤ out_room
+  pub added : Added before after bytes
 
 -- the front of an output, so many bytes, is what the program writes for an input, and the rest is as it was
 pub record Shown (input before after : List ℕ) (count : ℕ) : Type 0 where

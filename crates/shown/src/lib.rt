@@ -1,111 +1,140 @@
 // What the program `sheet` writes.
 #![tactic(auto)]
 
-ghost use Rattle.std.specs.Prelude.{◌≤◌, length, ◌≡◌};
-ghost use Rattle.prints.specs.Prints.{Adds};
+ghost use Rattle.std.specs.Prelude.{◌≡◌, ◌||◌, eqb};
+ghost use Rattle.sheets.specs.Made.{SHEET, TWICE};
+ghost use Rattle.prints.specs.Pages.{Added};
 ghost use Rattle.shown.specs.Shown.{
   reason_text,
   where_placed,
   refusal_line,
   Wrong,
   BookLent,
-  BookSaid,
+  AddedBook,
   Lent,
-  Shown,
+  AddedShow,
   suffices,
   Answers,
 };
 
 use book::DONE;
 use compiler::compile;
-use lines::put_bytes;
 use listed::{LONGEST_BOOK, PLAN_ROOM};
 use making::{BIG, KINDLESS, SHEET, TWICE, make, place};
 use marks::{add_place, front_of};
-use prints::{add_bytes, add_spaced};
-use said::add_said;
+use prints::Page;
+use said::Said;
 use stands::add_due;
-use told::add_book;
+use told::Named;
 
-// Adds why a sheet is refused.
-fn add_reason(out: &mut [u8], at: usize, sheet: &[u8], number: u32, found: usize) -> usize
-    requires { Wrong sheet.now number found }
-    ensures { Adds out.old out.new at result (reason_text sheet.now number) }
-{
-    if number == SHEET {
-        let next = add_bytes(out, at, b": ");
-        return add_due(out, next, front_of(sheet, found));
-    }
-    if number == TWICE {
-        return add_bytes(out, at, b": this name comes again");
-    }
-    if number == BIG {
-        return add_bytes(out, at, b": over 512 nodes or 64 kinds");
-    }
-    if number == KINDLESS {
-        return add_bytes(out, at, b": no event kind");
-    }
-    at
+// A sheet that is refused: by which number, as the C interface's `make` answers, and where.
+#[derive(Drop)]
+struct Refused<'a> {
+    sheet: &'a [u8],
+    number: u32,
+    place: usize,
 }
 
-// Adds line and column of a refusal that has a place.
-fn add_where_placed(out: &mut [u8], at: usize, sheet: &[u8], number: u32, found: usize) -> usize
-    ensures { Adds out.old out.new at result (where_placed sheet.now number found) }
-{
-    if (number == SHEET) | (number == TWICE) {
-        return add_place(out, at, sheet, found);
+impl<'a> Refused<'a> {
+    // Adds why it is refused.
+    fn add_reason(&self, page: &mut Page)
+        requires { Wrong self.now.sheet.now self.now.number self.now.place }
+        ensures { Added page.old page.new
+            (reason_text self.now.sheet.now self.now.number) }
+    {
+        match self.number {
+            SHEET => {
+                page.add(b": ");
+                add_due(page, front_of(self.sheet, self.place));
+            },
+            TWICE => page.add(b": this name comes again"),
+            BIG => page.add(b": over 512 nodes or 64 kinds"),
+            KINDLESS => page.add(b": no event kind"),
+            _ => {},
+        }
     }
-    at
+
+    // Whether it has a place.
+    fn has_place(&self) -> bool
+        ensures { result ≡ (eqb self.now.number SHEET || eqb self.now.number TWICE) }
+    {
+        matches!(self.number, SHEET | TWICE)
+    }
+
+    // Adds line and column, where it has a place.
+    fn add_where_placed(&self, page: &mut Page)
+        ensures { Added page.old page.new
+            (where_placed self.now.sheet.now self.now.number self.now.place) }
+    {
+        if self.has_place() {
+            add_place(page, self.sheet, self.place);
+        }
+    }
+
+    // Adds its line.
+    fn add_line(&self, page: &mut Page)
+        requires { Wrong self.now.sheet.now self.now.number self.now.place }
+        ensures { Added page.old page.new
+            (refusal_line self.now.sheet.now self.now.number self.now.place) }
+    {
+        page.add(b"refused");
+        page.add_spaced(self.number as u64);
+        self.add_where_placed(page);
+        self.add_reason(page);
+        page.add(b"\n");
+    }
 }
 
-// Adds the line of a sheet's refusal.
-fn add_refusal(out: &mut [u8], sheet: &[u8], number: u32, found: usize) -> usize
-    requires { Wrong sheet.now number found }
-    ensures { Adds out.old out.new 0 result (refusal_line sheet.now number found) }
-{
-    let word = add_bytes(out, 0, b"refused");
-    let first = add_spaced(out, word, number as u64);
-    let second = add_where_placed(out, first, sheet, number, found);
-    let third = add_reason(out, second, sheet, number, found);
-    add_bytes(out, third, b"\n")
-}
-
-// Puts the lines of a sheet's book and what the compiler says of it, and answers their length.
-fn show_book(sheet: &[u8], book: &[u8], out: &mut [u8], plan: &mut [u8]) -> usize
-    requires { BookLent sheet.now out.old book.now plan.old }
-    ensures { BookSaid sheet.now book.now out.old out.new result }
+// Adds the lines of a sheet's book and what the compiler says of it.
+fn add_book(page: &mut Page, sheet: &[u8], book: &[u8], plan: &mut [u8])
+    requires { BookLent sheet.now book.now plan.old }
+    ensures { AddedBook sheet.now book.now page.old page.new }
 {
     let answer = compile(book, plan);
     let from = place(sheet, answer.place);
-    let lines = add_book(out, 0, book);
-    add_said(out, lines, sheet, book, answer, from.place as usize)
+    let book = Named::new(book);
+    book.add_lines(page);
+    let place = from.place as usize;
+    let said = Said {
+        sheet,
+        book,
+        answer,
+        place,
+    };
+    said.add_lines(page);
 }
 
 // The longest sheet.
 const SHEET_ROOM: usize = 65536;
 
-// Puts what the program writes for a sheet, and answers its length.
-fn show_sheet(sheet: &[u8], out: &mut [u8], book: &mut [u8], plan: &mut [u8]) -> usize
-    requires { Lent out.old book.old plan.old }
-    ensures { Shown sheet.now out.old out.new result }
+// Adds what the program writes for a sheet.
+fn add_show(page: &mut Page, sheet: &[u8], book: &mut [u8], plan: &mut [u8])
+    requires { Lent book.old plan.old }
+    ensures { AddedShow sheet.now page.old page.new }
 {
     if SHEET_ROOM < sheet.len() {
-        return put_bytes(out, 0, b"input too long\n");
+        return page.add(b"input too long\n");
     }
     let made = make(sheet, book);
     if made.number != DONE {
-        return add_refusal(out, sheet, made.number, made.place as usize);
+        let refused = Refused {
+            sheet,
+            number: made.number,
+            place: made.place as usize,
+        };
+        return refused.add_line(page);
     }
     let size = made.size as usize;
-    show_book(sheet, &book[..size], out, plan)
+    add_book(page, sheet, &book[..size], plan);
 }
 
 // The bytes of an input that decide, and the size of the output.
-pub const INPUT_ROOM: usize = 65537;
+pub const INPUT_ROOM: usize = SHEET_ROOM + 1;
 
+// `out_room` of specs/, counted from the longest lines.
 pub const OUT_ROOM: usize = 150330;
 
-// Whether the lengths of the lent buffers suffice, with so many bytes of input in the first.
+// Whether the lengths of the lent buffers suffice, with so many bytes of input in the first; `Answers` speaks of each.
 fn suffice(buffer: usize, size: usize, out: usize, book: usize, plan: usize) -> bool
     ensures { result ≡ suffices buffer size out book plan }
 {
@@ -125,5 +154,7 @@ pub fn show(buffer: &[u8], size: usize, out: &mut [u8], book: &mut [u8], plan: &
     if !suffice(buffer.len(), size, out.len(), book.len(), plan.len()) {
         return 0;
     }
-    show_sheet(&buffer[..size], out, book, plan)
+    let mut page = Page::new(out);
+    add_show(&mut page, &buffer[..size], book, plan);
+    page.len()
 }

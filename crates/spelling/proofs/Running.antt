@@ -14,7 +14,8 @@ use Rattle.sheets.specs.Text.{letter, blank, same, empty_word}
 use Rattle.sheets.specs.Grammar.{Rule}
 use Rattle.syntax.specs.Machine.{Frame, Inside, Spot, due, in_word, after, done, State, in_name, equals_due, inside}
 use Rattle.syntax.specs.Machine.{goes, stops, Outcome, wrong, run, step, at_end, onward, within, may_star, follows, begins, after_name}
-use Rattle.spelling.specs.Places.{Idle, byte_at, GoesWrong, Comes, SkippedTo, LettersTo, letters_at}
+use native.Mathlib.Nat.{add-zero}
+use Rattle.spelling.specs.Places.{Idle, byte_at, GoesWrong, Comes, PastRow, SkippedTo, LettersTo, letters_at}
 
 -- a state in which the text may not end
 pub data Unfinished : State → Type 0 where
@@ -110,75 +111,55 @@ module _ (text : List ℕ) where
           let clash : false ≡ true = sym none ∙ sym end ∙ some in
           never clash
 
-  -- ---- blanks
+  -- ---- rows of bytes
 
-  -- blanks so far
-  pub record Skipping (at to : ℕ) : Type 0 where
+  -- a test holds from a place on, up to another, where it does not
+  pub record Row (test : ℕ → Bool) (at to : ℕ) : Type 0 where
     pub low : at ≤ to
-    pub high : to ≤ length text
-    pub passed : (state : State) → Idle state → Comes text at state to state
+    pub high : at ≤ length text → to ≤ length text
+    pub each : (k : ℕ) → at ≤ k → k < to → (test (byte_at text k) ≡ true) × (k < length text)
+    pub over : test (byte_at text to) ≡ false
 
-  pub skipping_none : (at : ℕ) → at ≤ length text → Skipping at at
-  skipping_none at high = record { low = omega arith; high = high; passed = λ state idle. record { runs = refl } }
+  -- a test that the end does not meet
+  pub row_by : {at to : ℕ} (test : ℕ → Bool) → test 0 ≡ false → PastRow text (λ byte meets. meets ≡ test byte) at to → Row test at to
+  row_by {at} {to} test none p =
+      record {
+        low = p.low;
+        high = p.high;
+        each = λ k low below. let q = p.each k low below in (sym q.0, q.1);
+        over = go (ltb to (length text)) refl;
+      }
+    where
+      go : (below : Bool) → ltb to (length text) ≡ below → test (byte_at text to) ≡ false
+      go true e = sym (p.over (ltb-true to (length text) e))
+      go false e = ap test (get_or-eq_default text 0 (ltb-false to (length text) e)) ∙ none
 
-  pub blank_there : (to : ℕ) → blank (byte_at text to) ≡ true → to < length text
+  -- blanks are skipped
+  pub row_skipped : {at to : ℕ} → at ≤ length text → PastRow text (λ byte meets. meets ≡ blank byte) at to → SkippedTo text at to
   unfolding blank
-  blank_there to is = there_is blank to refl is
+  row_skipped {at} {to} within p =
+      let row = row_by blank refl p in
+      let low = row.low in
+      record {
+        low = low;
+        high = row.high within;
+        fresh = row.over;
+        passed = λ state idle. let end : at + (to - at) ≡ to = omega arith in rw end at (go state idle row (to - at) (omega arith));
+      }
+    where
+      go : (state : State) → Idle state → Row blank at to → (n : ℕ) → at + n ≤ to → Comes text at state (at + n) state
+      go state idle row zero below = record { runs = rw add-zero }
+      go state idle row (suc n) below =
+          let next : at + suc n ≡ at + n + 1 = omega arith in
+          let one = row.each (at + n) (omega arith) (omega arith) in
+          rw next (comes_then (go state idle row n (omega arith)) (comes_on one.1 (idle.stays (at + n) (byte_at text (at + n)) one.0)))
 
-  module _ {at to : ℕ} where
-    pub skipping_more : Skipping at to → blank (byte_at text to) ≡ true → Skipping at (to + 1)
-    skipping_more p is =
-        let below : to < length text = blank_there to is in
-        let low = p.low in
-        record {
-          low = omega arith;
-          high = omega arith;
-          passed = λ state idle. comes_then (p.passed state idle) (comes_on below (idle.stays to (byte_at text to) is));
-        }
-
-    pub skipping_left : Skipping at to → blank (byte_at text to) ≡ true → length text - (to + 1) < length text - to
-    skipping_left p is = omega (arith, blank_there to is)
-
-    pub skipping_done : Skipping at to → blank (byte_at text to) ≡ false → SkippedTo text at to
-    skipping_done p is = record { low = p.low; high = p.high; fresh = is; passed = p.passed }
-
-  -- ---- letters
-
-  -- letters so far
-  pub record Spelling (at to : ℕ) : Type 0 where
-    pub low : at ≤ to
-    pub high : to ≤ length text
-    pub letters : (k : ℕ) → at ≤ k → k < to → letter (byte_at text k) ≡ true
-
-  pub spelling_none : (at : ℕ) → at ≤ length text → Spelling at at
-  spelling_none at high = record { low = omega arith; high = high; letters = λ k low below. absurd (omega arith) }
-
-  pub letter_there : (to : ℕ) → letter (byte_at text to) ≡ true → to < length text
+  -- letters stand in a row
+  pub row_spelled : {at to : ℕ} → at ≤ length text → PastRow text (λ byte meets. meets ≡ letter byte) at to → LettersTo text at to
   unfolding letter
-  letter_there to is = there_is letter to refl is
-
-  module _ {at to : ℕ} where
-    pub spelling_more : Spelling at to → letter (byte_at text to) ≡ true → Spelling at (to + 1)
-    spelling_more p is =
-        let below : to < length text = letter_there to is in
-        let low = p.low in
-        record { low = omega arith; high = omega arith; letters = more }
-      where
-        more : (k : ℕ) → at ≤ k → k < to + 1 → letter (byte_at text k) ≡ true
-        more k from below = go (ltb k to) refl
-          where
-            go : (test : Bool) → ltb k to ≡ test → letter (byte_at text k) ≡ true
-            go true e = p.letters k from (ltb-true k to e)
-            go false e =
-                let past : to ≤ k = ltb-false k to e in
-                let last : k ≡ to = omega arith in
-                rw last is
-
-    pub spelling_left : Spelling at to → letter (byte_at text to) ≡ true → length text - (to + 1) < length text - to
-    spelling_left p is = omega (arith, letter_there to is)
-
-    pub spelling_done : Spelling at to → letter (byte_at text to) ≡ false → LettersTo text at to
-    spelling_done p is = record { low = p.low; high = p.high; letters = p.letters; past = is }
+  row_spelled within p =
+      let row = row_by letter refl p in
+      record { low = row.low; high = row.high within; letters = λ k low below. (row.each k low below).0; past = row.over }
 
 -- a state in which a word begins, and those within the word
 pub record Wording (start : State) (within : ℕ → List ℕ → State) : Type 0 where

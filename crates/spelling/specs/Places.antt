@@ -31,6 +31,13 @@ module _ (text : List ℕ) where
   pub record Comes (at : ℕ) (state : State) (place : ℕ) (then : State) : Type 0 where
     pub runs : run (drop at text) state at ≡ run (drop place text) then place
 
+  -- from a place on bytes stand that meet a test, up to another, where none does or none stands
+  pub record PastRow (Meets : ℕ → Bool → Type 0) (at to : ℕ) : Type 0 where
+    pub low : at ≤ to
+    pub high : at ≤ length text → to ≤ length text
+    pub each : (k : ℕ) → at ≤ k → k < to → Meets (byte_at k) true × (k < length text)
+    pub over : to < length text → Meets (byte_at to) false
+
   -- from a place on blanks are skipped, up to another
   pub record SkippedTo (at to : ℕ) : Type 0 where
     pub low : at ≤ to

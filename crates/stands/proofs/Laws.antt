@@ -11,13 +11,13 @@ use lib.Seq.{drop-cons}
 use Rattle.sheets.specs.Text.{letter, blank, same, empty_word}
 use Rattle.sheets.specs.Grammar.{Expression, Rule}
 use Rattle.syntax.specs.Machine.{Open, Frame, Inside, Spot, due, in_word, after, done, State, name_due, in_name, equals_due, inside}
-use Rattle.syntax.specs.Machine.{Next, goes, stops, Outcome, sheet, wrong}
+use Rattle.syntax.specs.Machine.{Next, goes, stops, wrong}
 use Rattle.syntax.specs.Machine.{opened, closes, ends, begins, follows, may_star, within, after_name, step}
 use Rattle.syntax.specs.Machine.{with_factor, word_of, closed, at_end, onward, run, read_sheet}
 use Rattle.stands.specs.declared.Stand.{Stand}
-use Rattle.stands.specs.declared.Stand.TheVariants.{NameDue, InName, EqualsDue, Due, InWord, After, Done}
+use Rattle.stands.specs.declared.Stand.TheVariants.{NameDue, InName, Due, InWord, After}
 use Rattle.stands.specs.Stands.{staying, stood, kept_next, kept_from, stand_in, stand_of}
-use Rattle.stands.specs.Stands.{beginning, ending, following, starring, naming, advance, advanced}
+use Rattle.stands.specs.Stands.{beginning, following, starring, naming, advance, advanced}
 
 -- ---- bytes one after the other
 

@@ -1,5 +1,5 @@
 -- How the reading of a sheet stands at a place, and what is due there, in words.
-use Rattle.std.specs.Prelude.{ℕ, suc, ◌+◌, ◌-◌, Bool, true, false, ◌&&◌, ◌||◌, cond, List, [], ◌∷◌, ◌++◌, ltb, leb, eqb, length, get_or}
+use Rattle.std.specs.Prelude.{ℕ, suc, ◌+◌, ◌-◌, Bool, true, false, ◌&&◌, cond, List, [], ◌∷◌, ◌++◌, ltb, eqb, length, get_or}
 use Rattle.lines.specs.Text.{text}
 use Rattle.sheets.specs.Text.{letter, blank, empty_word}
 use Rattle.syntax.specs.Machine.{Spot, due, in_word, after, done, State, name_due, in_name, equals_due, inside}

@@ -1,19 +1,19 @@
 -- Laws of a book told in words: where its names stand, and how long its lines are.
-use Prim.Native.Nat.{ℕ, zero, suc, ◌+◌, ◌*◌, ◌-◌, ◌≤◌, ◌<◌}
+use Prim.Native.Nat.{ℕ, ◌+◌, ◌-◌, ◌≤◌, ◌<◌}
 use native.Mathlib.Omega.{arith}
-use mathlib.Core.Path.{◌≡◌, refl, sym, ap, ◌∙◌}
-use mathlib.Core.List.{List, [], ◌∷◌, ◌++◌}
+use mathlib.Core.Path.{◌≡◌}
+use mathlib.Core.List.{List}
 use lib.ListN.{length, get_or, take, drop, length-append}
-use Rattle.names.specs.Names.{past_name, name_at, name_of}
+use Rattle.names.specs.Names.{name_at, name_of}
 use Rattle.names.proofs.Places.{Whole, length_name}
 use Rattle.names.proofs.Standing.{names_stand}
-use Rattle.book.specs.Book.{Proper, fail_is, empty_is, token_is, either_is, then_is, tagged_is, ref_is}
+use Rattle.book.specs.Book.{fail_is, empty_is, token_is, either_is, then_is, tagged_is, ref_is}
 use Rattle.book.specs.Form.{names_at, book_of}
 use Rattle.book.specs.declared.Node.{Node}
-use Rattle.book.specs.declared.Node.TheVariants.{Fail, Empty, Token, Either, Then, Tagged, Ref}
-use Rattle.book.proofs.Decoded.{Formed, formed, well_formed}
-use Rattle.lines.specs.Lines.{spaced}
-use Rattle.lines.proofs.Laws.{digits_short}
+use Rattle.book.specs.declared.Node.TheVariants.{Token}
+use Rattle.book.proofs.Decoded.{formed, well_formed}
+use Rattle.prints.specs.Digits.{spaced}
+use Rattle.prints.proofs.Digits.{digits_short}
 use Rattle.prints.proofs.Lists.{lists_short}
 use Rattle.told.specs.Told.{NamedBook, KindIn, NodeIn, name_text, kind_line, node_text, node_line}
 use Rattle.told.specs.Told.{kind_lines, node_lines, start_line, book_lines, book_room}
@@ -33,22 +33,28 @@ module _ {bytes : List ℕ} (b : NamedBook bytes) where
   pub node_proper : (n : ℕ) → n < (book_of bytes).count → NodeIn bytes n ((book_of bytes).node n)
   node_proper n below = (well_formed (formed bytes b.form)).proper n below
 
-  -- where a kind's name begins, by where the names do, there is a whole name, which is that kind's
-  module _ {kind : ℕ} (below : KindIn bytes kind) {from : ℕ} (begin : from ≡ names_at bytes) where
-    pub name_whole : Whole bytes (name_at bytes from kind)
-    name_whole = rw begin (name_stands kind below)
+-- the names of a book stand from a place on
+pub record NamesFrom (bytes : List ℕ) (kind from : ℕ) : Type 0 where
+  pub book : NamedBook bytes
+  pub below : KindIn bytes kind
+  pub begin : from ≡ names_at bytes
 
-    pub name_within : name_at bytes from kind ≤ length bytes
-    name_within = omega (arith, name_whole.within)
+-- where a kind's name begins there is a whole name, which is that kind's
+module _ {bytes : List ℕ} {kind from : ℕ} (s : NamesFrom bytes kind from) where
+  pub name_whole : Whole bytes (name_at bytes from kind)
+  name_whole = rw s.begin (name_stands s.book kind s.below)
 
-    pub name_ends : {at size : ℕ} → at ≡ name_at bytes from kind → size ≡ get_or bytes at 0 → at + 1 + size ≤ length bytes
-    name_ends is long = rw (long, is) name_whole.within
+  pub name_within : name_at bytes from kind ≤ length bytes
+  name_within = omega (arith, name_whole.within)
 
-    pub name_taken : {at size : ℕ} → at ≡ name_at bytes from kind → size ≡ get_or bytes at 0
-        → take (at + 1 + size - (at + 1)) (drop (at + 1) bytes) ≡ name_of bytes (names_at bytes) kind
-    name_taken {at} {size} is long =
-        let left : at + 1 + size - (at + 1) ≡ size = omega arith in
-        rw (left, long, is, begin)
+  module _ {at : ℕ} (is : at ≡ name_at bytes from kind) where
+    pub name_ends : at + 1 + get_or bytes at 0 ≤ length bytes
+    name_ends = rw is name_whole.within
+
+    pub name_taken : take (at + 1 + get_or bytes at 0 - (at + 1)) (drop (at + 1) bytes) ≡ name_of bytes (names_at bytes) kind
+    name_taken =
+        let left : at + 1 + get_or bytes at 0 - (at + 1) ≡ get_or bytes at 0 = omega arith in
+        rw (left, is, s.begin)
 
 -- the kind of a token
 pub token_kind : (bytes : List ℕ) {n kind : ℕ} {node : Node} → NodeIn bytes n node → node ≡ Token kind → KindIn bytes kind
@@ -56,10 +62,6 @@ token_kind bytes {n} {kind} p is = go (rw is at p)
   where
     go : NodeIn bytes n (Token kind) → KindIn bytes kind
     go (token_is below) = below
-
--- a count that is reached
-pub until : {i count : ℕ} → count ≤ i → i ≤ count → i ≡ count
-until past within = omega arith
 
 -- ---- how long the lines are
 

@@ -7,7 +7,8 @@ use Rattle.book.specs.Form.{DONE, named, names_at, form_of, book_of}
 use Rattle.book.specs.declared.Node.{Node}
 use Rattle.book.specs.declared.Node.TheVariants.{Fail, Empty, Token, Either, Then, Tagged, Ref}
 use Rattle.lines.specs.Text.{text}
-use Rattle.lines.specs.Lines.{spaced, line_feed}
+use Rattle.prints.specs.Digits.{spaced}
+use Rattle.lines.specs.Lines.{line_feed}
 
 -- a book of good form with names
 pub record NamedBook (bytes : List ℕ) : Type 0 where

@@ -1,149 +1,169 @@
-// A book with names, told in words, put into a lent buffer as far as there is room.
+// A book with names, told in words on a page.
 #![tactic(auto)]
 
-ghost use Rattle.std.specs.Prelude.{◌≡◌, ◌<◌};
+ghost use Rattle.std.specs.Prelude.{◌≡◌, ◌<◌, ◌≤◌};
 ghost use Rattle.names.specs.Names.{name_of};
 ghost use Rattle.book.specs.Form.{names_at, book_of};
-ghost use Rattle.prints.specs.Prints.{Adds};
+ghost use Rattle.prints.specs.Pages.{Added};
 ghost use Rattle.told.specs.Told.{NamedBook, KindIn, NodeIn, pair_text, ref_text, name_text, kind_line};
 ghost use Rattle.told.specs.Told.{node_text, node_line, kind_lines, node_lines, start_line, book_lines};
 
-use book::{Node, count_in, kinds_in, names_from, node_in, start_in};
+use book::{Book, Node};
 use names::name_at;
-use prints::{add_bytes, add_spaced};
-use words::wide;
+use prints::Page;
+use std::marker::Model;
 
-// The name of a kind.
-fn name_in(book: &[u8], kind: usize) -> &[u8]
-    requires { NamedBook book.now × KindIn book.now kind }
-    ensures { result.now ≡ name_of book.now (names_at book.now) kind }
-{
-    let at = name_at(book, names_from(book), kind);
-    let size = wide(book[at]);
-    &book[at + 1..at + 1 + size]
+// A book of good form with names.
+#[derive(Drop)]
+pub struct Named<'a> {
+    book: Book<'a>,
 }
 
-// Adds a space and the name of a kind.
-pub fn add_name(out: &mut [u8], at: usize, book: &[u8], kind: usize) -> usize
-    requires { NamedBook book.now × KindIn book.now kind }
-    ensures { Adds out.old out.new at result (name_text book.now kind) }
-{
-    let next = add_bytes(out, at, b" ");
-    add_bytes(out, next, name_in(book, kind))
+impl<'a> Model for Named<'a> {
+    ghost use Rattle.std.specs.Prelude.{List, ℕ};
+    ghost use Rattle.told.specs.Told.{NamedBook};
+
+    ghost Value = { List ℕ };
+
+    ghost view = { λ named. named.book };
+
+    ghost invariant = { λ named. NamedBook named.book };
 }
 
-// Adds a kind's line.
-fn add_kind(out: &mut [u8], at: usize, book: &[u8], kind: usize) -> usize
-    requires { NamedBook book.now × KindIn book.now kind }
-    ensures { Adds out.old out.new at result (kind_line book.now kind) }
-{
-    let word = add_bytes(out, at, b"kind");
-    let number = add_spaced(out, word, kind as u64);
-    let name = add_name(out, number, book, kind);
-    add_bytes(out, name, b"\n")
-}
-
-// Adds the lines of all kinds.
-fn add_kinds(out: &mut [u8], at: usize, book: &[u8]) -> usize
-    requires { NamedBook book.now }
-    ensures { Adds out.old out.new at result (kind_lines book.now) }
-{
-    let count = kinds_in(book);
-    let mut next = at;
-    let mut kind = 0;
-    while kind < count {
-        next = add_kind(out, next, book, kind);
-        kind += 1;
+impl<'a> Named<'a> {
+    // The book that bytes are.
+    pub fn new(bytes: &'a [u8]) -> Named<'a>
+        requires { NamedBook bytes.now }
+        ensures { result ≡ bytes.now }
+    {
+        let Ok(book) = Book::read(bytes) else {
+            unreachable!()
+        };
+        Named { book }
     }
-    next
+
+    // How many kinds it has.
+    pub fn kinds(&self) -> usize
+        ensures named { NamedBook self.now }
+        ensures kinds { result ≡ (book_of self.now).kinds }
+        ensures few { result ≤ 64 }
+    {
+        self.book.kinds()
+    }
+
+    // The name of a kind, a number below the count (`KindIn`) as ranges and nodes give it: a type for it is no plainer.
+    fn name(&self, kind: usize) -> &'a [u8]
+        requires { KindIn self.now kind }
+        ensures { result.now ≡ name_of self.now (names_at self.now) kind }
+    {
+        let bytes = self.book.bytes();
+        let at = name_at(bytes, self.book.names_at(), kind);
+        let size = bytes[at] as usize;
+        &bytes[at + 1..at + 1 + size]
+    }
+
+    // Adds a space and the name of a kind.
+    pub fn add_name(&self, page: &mut Page, kind: usize)
+        requires { KindIn self.now kind }
+        ensures { Added page.old page.new (name_text self.now kind) }
+    {
+        page.add(b" ");
+        page.add(self.name(kind));
+    }
+
+    // Adds a kind's line.
+    fn add_kind(&self, page: &mut Page, kind: usize)
+        requires { KindIn self.now kind }
+        ensures { Added page.old page.new (kind_line self.now kind) }
+    {
+        page.add(b"kind");
+        page.add_spaced(kind as u64);
+        self.add_name(page, kind);
+        page.add(b"\n");
+    }
+
+    // Adds the lines of all kinds.
+    fn add_kinds(&self, page: &mut Page)
+        ensures { Added page.old page.new (kind_lines self.now) }
+    {
+        page.add_each(self.kinds(), |page, kind| self.add_kind(page, kind));
+    }
+
+    // Adds a token, with its kind's name.
+    fn add_token(&self, page: &mut Page, kind: usize)
+        requires { KindIn self.now kind }
+        ensures { Added page.old page.new (node_text self.now (Node.Token kind)) }
+    {
+        page.add(b" token");
+        self.add_name(page, kind);
+    }
+
+    // Adds a node: its type, and its left and right.
+    fn add_node_text(&self, page: &mut Page, n: usize, node: Node)
+        requires { NodeIn self.now n node }
+        ensures { Added page.old page.new (node_text self.now node) }
+    {
+        match node {
+            Node::Fail => page.add(b" fail"),
+            Node::Empty => page.add(b" empty"),
+            Node::Token(kind) => self.add_token(page, kind),
+            Node::Either(left, right) => add_pair(page, b" either", left, right),
+            Node::Then(left, right) => add_pair(page, b" then", left, right),
+            Node::Tagged(left, label) => add_pair(page, b" tagged", left, label),
+            Node::Ref(left) => add_ref(page, left),
+        }
+    }
+
+    // Adds a node's line.
+    fn add_node(&self, page: &mut Page, n: usize)
+        requires { n < (book_of self.now).count }
+        ensures { Added page.old page.new (node_line self.now n) }
+    {
+        page.add(b"node");
+        page.add_spaced(n as u64);
+        self.add_node_text(page, n, self.book.node(n));
+        page.add(b"\n");
+    }
+
+    // Adds the lines of all nodes.
+    fn add_nodes(&self, page: &mut Page)
+        ensures { Added page.old page.new (node_lines self.now) }
+    {
+        page.add_each(self.book.count(), |page, n| self.add_node(page, n));
+    }
+
+    // Adds the start's line.
+    fn add_start(&self, page: &mut Page)
+        ensures { Added page.old page.new (start_line self.now) }
+    {
+        page.add(b"start");
+        page.add_spaced(self.book.start() as u64);
+        page.add(b"\n");
+    }
+
+    // Adds the lines of the book.
+    pub fn add_lines(&self, page: &mut Page)
+        ensures { Added page.old page.new (book_lines self.now) }
+    {
+        self.add_kinds(page);
+        self.add_nodes(page);
+        self.add_start(page);
+    }
 }
 
 // Adds a word and two numbers.
-fn add_pair(out: &mut [u8], at: usize, word: &[u8], left: usize, right: usize) -> usize
-    ensures { Adds out.old out.new at result (pair_text word.now left right) }
+fn add_pair(page: &mut Page, word: &[u8], left: usize, right: usize)
+    ensures { Added page.old page.new (pair_text word.now left right) }
 {
-    let first = add_bytes(out, at, word);
-    let second = add_spaced(out, first, left as u64);
-    add_spaced(out, second, right as u64)
-}
-
-// Adds a token, with its kind's name.
-fn add_token(out: &mut [u8], at: usize, book: &[u8], kind: usize) -> usize
-    requires { NamedBook book.now × KindIn book.now kind }
-    ensures { Adds out.old out.new at result (node_text book.now (Node.Token kind)) }
-{
-    let next = add_bytes(out, at, b" token");
-    add_name(out, next, book, kind)
+    page.add(word);
+    page.add_spaced(left as u64);
+    page.add_spaced(right as u64);
 }
 
 // Adds a ref.
-fn add_ref(out: &mut [u8], at: usize, left: usize) -> usize
-    ensures { Adds out.old out.new at result (ref_text left) }
+fn add_ref(page: &mut Page, left: usize)
+    ensures { Added page.old page.new (ref_text left) }
 {
-    let next = add_bytes(out, at, b" ref");
-    add_spaced(out, next, left as u64)
-}
-
-// Adds a node: its type, and its left and right.
-fn add_node_text(out: &mut [u8], at: usize, book: &[u8], n: usize, node: Node) -> usize
-    requires { NamedBook book.now × NodeIn book.now n node }
-    ensures { Adds out.old out.new at result (node_text book.now node) }
-{
-    match node {
-        Node::Fail => add_bytes(out, at, b" fail"),
-        Node::Empty => add_bytes(out, at, b" empty"),
-        Node::Token(kind) => add_token(out, at, book, kind),
-        Node::Either(left, right) => add_pair(out, at, b" either", left, right),
-        Node::Then(left, right) => add_pair(out, at, b" then", left, right),
-        Node::Tagged(left, label) => add_pair(out, at, b" tagged", left, label),
-        Node::Ref(left) => add_ref(out, at, left),
-    }
-}
-
-// Adds a node's line.
-fn add_node(out: &mut [u8], at: usize, book: &[u8], n: usize) -> usize
-    requires { NamedBook book.now × (n < (book_of book.now).count) }
-    ensures { Adds out.old out.new at result (node_line book.now n) }
-{
-    let node = node_in(book, n);
-    let word = add_bytes(out, at, b"node");
-    let number = add_spaced(out, word, n as u64);
-    let line = add_node_text(out, number, book, n, node);
-    add_bytes(out, line, b"\n")
-}
-
-// Adds the lines of all nodes.
-fn add_nodes(out: &mut [u8], at: usize, book: &[u8]) -> usize
-    requires { NamedBook book.now }
-    ensures { Adds out.old out.new at result (node_lines book.now) }
-{
-    let count = count_in(book);
-    let mut next = at;
-    let mut n = 0;
-    while n < count {
-        next = add_node(out, next, book, n);
-        n += 1;
-    }
-    next
-}
-
-// Adds the start's line.
-fn add_start(out: &mut [u8], at: usize, book: &[u8]) -> usize
-    requires { NamedBook book.now }
-    ensures { Adds out.old out.new at result (start_line book.now) }
-{
-    let start = start_in(book);
-    let word = add_bytes(out, at, b"start");
-    let number = add_spaced(out, word, start as u64);
-    add_bytes(out, number, b"\n")
-}
-
-// Adds the lines of a book.
-pub fn add_book(out: &mut [u8], at: usize, book: &[u8]) -> usize
-    requires { NamedBook book.now }
-    ensures { Adds out.old out.new at result (book_lines book.now) }
-{
-    let kinds = add_kinds(out, at, book);
-    let nodes = add_nodes(out, kinds, book);
-    add_start(out, nodes, book)
+    page.add(b" ref");
+    page.add_spaced(left as u64);
 }

@@ -105,7 +105,7 @@ module _ {held slots : List ℕ} (spot : Spot) (keeps : Keeps held slots spot.ke
 -- ---- events
 
 -- keeping a part and going on to the next leave them
-keep_events : (spot : Spot) (due : Due) (slots : List ℕ) → (keep_of spot due slots).spot.events ≡ spot.events
+pub keep_events : (spot : Spot) (due : Due) (slots : List ℕ) → (keep_of spot due slots).spot.events ≡ spot.events
 unfolding keep_of hold_of
 keep_events spot Nothing slots = refl
 keep_events spot (Part n) slots = refl

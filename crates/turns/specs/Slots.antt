@@ -1,5 +1,5 @@
 -- Reading a tree with slots for the parts due last, and looking back for the others.
-use Rattle.std.specs.Prelude.{ℕ, ◌+◌, ◌-◌, ◌≤◌, ◌<◌, ◌^◌, cond, List, ltb, eqb, length, get_or, set}
+use Rattle.std.specs.Prelude.{ℕ, ◌+◌, ◌-◌, cond, List, ltb, eqb, length, get_or, set}
 use Rattle.book.specs.Book.{Book}
 use Rattle.book.specs.declared.Node.{Node}
 use Rattle.book.specs.declared.Node.TheVariants.{Fail, Empty, Token, Either, Then, Tagged, Ref}
@@ -8,12 +8,6 @@ use Rattle.trees.specs.declared.Due.TheVariants.{Nothing, Part, Taking, OneOf, B
 use Rattle.trees.specs.Trees.{is_emptied}
 use Rattle.trees.specs.Back.{due_at}
 use Rattle.turns.specs.declared.Spot.{Spot}
-
--- so much is kept in so many slots, and the rest can be counted
-pub record Small (spot : Spot) (slots : ℕ) : Type 0 where
-  pub some : 0 < slots
-  pub few : spot.kept ≤ slots
-  pub counted : spot.lost + spot.kept + 1 < 2 ^ 64
 
 abbrev pub spot_of : Due → ℕ → ℕ → ℕ → Spot
 spot_of due kept lost events = record { due = due; kept = kept; lost = lost; events = events }

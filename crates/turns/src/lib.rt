@@ -5,12 +5,17 @@ ghost use Rattle.std.specs.Prelude.{◌≡◌, ◌<◌, ◌≤◌, ◌^◌, ◌+
 ghost use Rattle.book.specs.Form.{book_of};
 ghost use Rattle.rules.specs.Step.{kind_of};
 ghost use Rattle.due.specs.Due.{DueBelow, Looked};
-ghost use Rattle.turns.specs.Slots.{Small, with_due, next_of, lapse_of, left, hold_of, keep_of};
+ghost use Rattle.trees.specs.declared.Due.TheVariants.{Part};
+ghost use Rattle.turns.specs.Slots.{spot_of, next_of, lapse_of, left, hold_of, keep_of};
 ghost use Rattle.turns.specs.Slots.{met, event_of, open_of, came, turn_of};
 
-use book::Node;
-use due::{EMPTY, look_back};
+use book::{Book, Node};
+use due::{EMPTY, Past};
+use std::marker::Model;
 use trees::Due;
+
+// How many parts due are kept in slots.
+const SLOTS: usize = 64;
 
 // Where the reading of a tree stands: what is due; how many of the parts due behind it are kept in slots, and how many
 // are not; how many events have come.
@@ -22,94 +27,22 @@ pub struct Spot {
     pub events: usize,
 }
 
-// A part is whole: what is due then, before the record at a place.
-fn next(book: &[u8], tree: &[u16], at: usize, spot: Spot, slots: &[u16]) -> Spot
-    requires { (Looked book.now tree.now at) × (spot.kept ≤ length slots.now) }
-    ensures { result ≡ next_of (book_of book.now) tree.now at spot slots.now }
-{
-    let kept = spot.kept;
-    if 0 < kept {
-        return Spot {
-            due: Due::Part(slots[kept - 1] as usize),
-            kept: kept - 1,
-            lost: spot.lost,
-            events: spot.events,
-        };
-    }
-    if spot.lost == 0 {
-        return Spot {
-            due: Due::Nothing,
-            kept: 0,
-            lost: 0,
-            events: spot.events,
-        };
-    }
-    Spot {
-        due: look_back(book, tree, at),
-        kept: 0,
-        lost: spot.lost - 1,
-        events: spot.events,
-    }
+// A reading of a tree: where it stands, and the slots.
+#[derive(Drop)]
+pub struct Turns {
+    spot: Spot,
+    slots: [u16; SLOTS],
 }
 
-// Behind an empty record.
-fn lapse(book: &[u8], tree: &[u16], at: usize, spot: Spot, slots: &[u16]) -> Spot
-    requires { (Looked book.now tree.now at) × (spot.kept ≤ length slots.now) }
-    ensures { result ≡ lapse_of (book_of book.now) tree.now at spot spot.due slots.now }
-{
-    let due = spot.due;
-    match due {
-        Due::Nothing => next(book, tree, at, spot, slots),
-        Due::Part(_) => next(book, tree, at, spot, slots),
-        Due::Taking(_) => next(book, tree, at, spot, slots),
-        Due::OneOf(_, _) => next(book, tree, at, spot, slots),
-        Due::Both(_, r) => Spot {
-            due: Due::Taking(r),
-            kept: spot.kept,
-            lost: spot.lost,
-            events: spot.events,
-        },
-    }
-}
+impl Model for Turns {
+    ghost use Rattle.std.specs.Prelude.{◌≤◌};
+    ghost use Rattle.turns.specs.Slots.{Left, left};
 
-// Keeps a part in a slot; where all are in use they begin anew.
-fn hold(spot: Spot, r: usize, slots: &mut [u16]) -> Spot
-    requires { (Small spot (length slots.old)) × (r < 65536) }
-    ensures { left result slots.new ≡ hold_of spot r slots.old }
-{
-    let due = spot.due;
-    let kept = spot.kept;
-    if kept < slots.len() {
-        slots[kept] = r as u16;
-        return Spot {
-            due,
-            kept: kept + 1,
-            lost: spot.lost,
-            events: spot.events,
-        };
-    }
-    slots[0] = r as u16;
-    Spot {
-        due,
-        kept: 1,
-        lost: spot.lost + kept,
-        events: spot.events,
-    }
-}
+    ghost Value = { Left };
 
-// Keeps the right of a then that is due behind its left.
-fn keep(spot: Spot, count: usize, slots: &mut [u16]) -> Spot
-    requires { (Small spot (length slots.old)) × (DueBelow count spot.due) × (count ≤ 512) }
-    ensures { left result slots.new ≡ keep_of spot spot.due slots.old }
-{
-    let due = spot.due;
-    match due {
-        Due::Nothing => spot,
-        Due::Part(_) => spot,
-        Due::Taking(_) => spot,
-        Due::OneOf(_, _) => spot,
-        Due::Both(_, r) => hold(spot, r, slots),
-    }
+    ghost view = { λ turns. left turns.spot turns.slots };
+
+    ghost invariant = { λ turns. turns.spot.kept ≤ 64 };
 }
 
 // Writes an event, where the run has room for it.
@@ -122,90 +55,126 @@ fn note(run: &mut [u8], at: usize, kind: usize)
     }
 }
 
-// Behind the record of a token, which takes an event.
-fn event(
-    book: &[u8],
-    tree: &[u16],
-    at: usize,
-    kind: usize,
-    spot: Spot,
-    slots: &[u16],
-    run: &mut [u8],
-) -> Spot
-    requires looked { (Looked book.now tree.now at) × (spot.kept ≤ length slots.now) }
-    requires kind_bound { (kind < 256) × (spot.events + 1 < 2 ^ 64) }
-    ensures { met result run.new
-        ≡ event_of (book_of book.now) tree.now at kind spot slots.now run.old }
-{
-    note(run, spot.events, kind);
-    let due = spot.due;
-    let more = Spot {
-        due,
-        kept: spot.kept,
-        lost: spot.lost,
-        events: spot.events + 1,
-    };
-    next(book, tree, at, more, slots)
-}
-
-// What is due now, with all else as it was.
-fn with_due(spot: Spot, due: Due) -> Spot
-    ensures { result ≡ with_due spot due }
-{
-    Spot {
-        due,
-        kept: spot.kept,
-        lost: spot.lost,
-        events: spot.events,
+impl Turns {
+    // The start of a book is due, and nothing has been read.
+    pub fn of(book: &Book) -> Turns
+        ensures spot { result.spot ≡ spot_of (Part (book_of book.now).start) 0 0 0 }
+        ensures slots { length result.slots ≡ 64 }
+    {
+        Turns {
+            spot: Spot {
+                due: Due::Part(book.start()),
+                kept: 0,
+                lost: 0,
+                events: 0,
+            },
+            slots: [0; SLOTS],
+        }
     }
-}
 
-// Behind the record of a node that takes an event.
-fn open(
-    book: &[u8],
-    tree: &[u16],
-    at: usize,
-    node: Node,
-    spot: Spot,
-    slots: &[u16],
-    run: &mut [u8],
-) -> Spot
-    requires looked { (Looked book.now tree.now at) × (spot.kept ≤ length slots.now) }
-    requires node_bound { (kind_of node < 256) × (spot.events + 1 < 2 ^ 64) }
-    ensures { met result run.new
-        ≡ open_of (book_of book.now) tree.now at node spot slots.now run.old }
-{
-    match node {
-        Node::Fail => next(book, tree, at, spot, slots),
-        Node::Empty => next(book, tree, at, spot, slots),
-        Node::Token(k) => event(book, tree, at, k, spot, slots, run),
-        Node::Either(l, r) => with_due(spot, Due::OneOf(l, r)),
-        Node::Then(l, r) => with_due(spot, Due::Both(l, r)),
-        Node::Tagged(l, _) => with_due(spot, Due::Taking(l)),
-        Node::Ref(l) => with_due(spot, Due::Taking(l)),
+    // A part is whole: what is due then, behind the records read. A call of its own would cost a sixth of a reading's time.
+    #[inline(always)]
+    #[tactic(auto, unfolding(crate::specs::Slots::next_of))]
+    fn next(&mut self, past: &Past)
+        ensures { self.new ≡ left (next_of (book_of past.now.bytes) past.now.records past.now.at self.old.spot self.old.slots) self.old.slots }
+    {
+        if 0 < self.spot.kept {
+            self.spot.kept -= 1;
+            self.spot.due = Due::Part(usize::from(self.slots[self.spot.kept]));
+        } else if self.spot.lost == 0 {
+            self.spot.due = Due::Nothing;
+        } else {
+            self.spot.lost -= 1;
+            self.spot.due = past.due();
+        }
     }
-}
 
-// Behind the record at a place, which may stand there.
-pub fn turn(
-    book: &[u8],
-    tree: &[u16],
-    at: usize,
-    count: usize,
-    spot: Spot,
-    slots: &mut [u16],
-    run: &mut [u8],
-) -> Spot
-    requires looked { (Looked book.now tree.now (at + 1)) × (Small spot (length slots.old)) }
-    requires due_below { (DueBelow count spot.due) × (count ≡ (book_of book.now).count) × (spot.events + 1 < 2 ^ 64) }
-    ensures { came result slots.new run.new
-        ≡ turn_of (book_of book.now) tree.now at spot slots.old run.old }
-{
-    let given = tree[at] as usize;
-    if EMPTY <= given {
-        return lapse(book, tree, at + 1, spot, slots);
+    // Keeps a part in a slot; where all are in use they begin anew.
+    #[tactic(auto, unfolding(crate::specs::Slots::hold_of))]
+    fn hold(&mut self, r: usize)
+        requires { (self.old.spot.lost + self.old.spot.kept + 1 < 2 ^ 64) × (r < 65536) }
+        ensures { self.new ≡ hold_of self.old.spot r self.old.slots }
+    {
+        if self.spot.kept == SLOTS {
+            self.spot.lost += SLOTS;
+            self.spot.kept = 0;
+        }
+        self.slots[self.spot.kept] = r as u16;
+        self.spot.kept += 1;
     }
-    let node = book::node_in(book, given);
-    let kept = keep(spot, count, slots);
-    open(book, tree, at + 1, node, kept, slots, run)
+
+    // What is due.
+    pub fn due(&self) -> Due
+        ensures { result ≡ self.now.spot.due }
+    {
+        self.spot.due
+    }
+
+    // How many events have come.
+    pub fn events(&self) -> usize
+        ensures { result ≡ self.now.spot.events }
+    {
+        self.spot.events
+    }
+
+    // Behind an empty record.
+    #[tactic(auto, unfolding(crate::specs::Slots::lapse_of))]
+    fn lapse(&mut self, past: &Past)
+        ensures { self.new ≡ left (lapse_of (book_of past.now.bytes) past.now.records past.now.at self.old.spot self.old.spot.due self.old.slots) self.old.slots }
+    {
+        match self.spot.due {
+            Due::Both(_, r) => self.spot.due = Due::Taking(r),
+            _ => self.next(past),
+        }
+    }
+
+    // Keeps the right of a then that is due behind its left.
+    #[tactic(auto, using(due::proofs::Below::second_below), unfolding(due::specs::Due::due_nodes, crate::specs::Slots::keep_of))]
+    fn keep(&mut self, count: usize)
+        requires { (self.old.spot.lost + self.old.spot.kept + 1 < 2 ^ 64) × (DueBelow count self.old.spot.due) × (count ≤ 512) }
+        ensures { self.new ≡ keep_of self.old.spot self.old.spot.due self.old.slots }
+    {
+        match self.spot.due {
+            Due::Both(_, r) => self.hold(r),
+            _ => {}
+        }
+    }
+
+    // Behind the record of a node that takes an event: a token writes it.
+    #[tactic(auto, unfolding(crate::specs::Slots::open_of, crate::specs::Slots::event_of))]
+    fn open(&mut self, past: &Past, node: Node, run: &mut [u8])
+        requires { (kind_of node < 256) × (self.old.spot.events + 1 < 2 ^ 64) }
+        ensures opened { met self.new.spot run.new
+            ≡ open_of (book_of past.now.bytes) past.now.records past.now.at node self.old.spot self.old.slots run.old }
+        ensures slots { self.new.slots ≡ self.old.slots }
+    {
+        match node {
+            Node::Fail | Node::Empty => self.next(past),
+            Node::Token(k) => {
+                note(run, self.spot.events, k);
+                self.spot.events += 1;
+                self.next(past);
+            }
+            Node::Either(l, r) => self.spot.due = Due::OneOf(l, r),
+            Node::Then(l, r) => self.spot.due = Due::Both(l, r),
+            Node::Tagged(l, _) | Node::Ref(l) => self.spot.due = Due::Taking(l),
+        }
+    }
+
+    // Behind the record at a place, which may stand there.
+    pub fn turn(&mut self, book: &Book, tree: &[u16], at: usize, run: &mut [u8])
+        requires looked { (Looked (book_of book.now) tree.now (at + 1)) × (DueBelow (book_of book.now).count self.old.spot.due) }
+        requires counted { (self.old.spot.lost + self.old.spot.kept + 1 < 2 ^ 64) × (self.old.spot.events + 1 < 2 ^ 64) }
+        ensures { came self.new.spot self.new.slots run.new
+            ≡ turn_of (book_of book.now) tree.now at self.old.spot self.old.slots run.old }
+    {
+        let past = Past::of(book, tree, at + 1);
+        let given = usize::from(tree[at]);
+        if EMPTY <= given {
+            self.lapse(&past);
+        } else {
+            self.keep(book.count());
+            self.open(&past, book.node(given), run);
+        }
+    }
 }

@@ -1,7 +1,7 @@
 -- Records of a book that passes are its tree, of one run, or wrong at one place; which of these is decided.
 use Prim.Native.Nat.{ℕ, zero, suc, ◌≤◌, ◌<◌}
 use native.Mathlib.Omega.{arith}
-use mathlib.Core.Path.{◌≡◌, refl}
+use mathlib.Core.Path.{◌≡◌, refl, sym, ap, ◌∙◌}
 use mathlib.Core.Bool.{Bool, true, false}
 use mathlib.Core.Logic.{◌↔◌, ◌⊎◌, inl, inr}
 use mathlib.Core.List.{List}
@@ -17,15 +17,31 @@ use Rattle.rules.proofs.Bounds.{first_kind}
 use Rattle.rules.proofs.Marks.{nullable_decided, first_decided}
 use Rattle.verdict.proofs.Some.{decide, search}
 use Rattle.meaning.specs.Meaning.{Accepts}
-use Rattle.trees.specs.declared.Due.TheVariants.{Part}
+use Rattle.trees.specs.declared.Due.{Due}
+use Rattle.trees.specs.declared.Due.TheVariants.{Nothing, Part, Taking, OneOf, Both}
 use Rattle.trees.specs.Trees.{Tree, Wrong, wrong_at, more_due, events}
 use Rattle.trees.specs.Machine.{Powers, PowersOf, State, state, allows, goes, reads, read_tree}
 use Rattle.trees.proofs.ReadTrees.{tree_is_read, read_on}
 use Rattle.trees.proofs.Places.{wrong_parts, due_lacks, nothing_due_tree}
-use Rattle.due.specs.Due.{is_nothing}
-use Rattle.unread.proofs.UnderWay.{nothing_is, something}
 
--- ---- what the nodes can do is decided
+-- ---- whether nothing is due, and what the nodes can do, is decided
+
+abbrev is_nothing : Due → Bool
+is_nothing Nothing = true
+is_nothing (Part n) = false
+is_nothing (Taking n) = false
+is_nothing (OneOf l r) = false
+is_nothing (Both l r) = false
+
+nothing_is : (due : Due) → is_nothing due ≡ true → due ≡ Nothing
+nothing_is Nothing e = refl
+nothing_is (Part n) e = never e
+nothing_is (Taking n) e = never e
+nothing_is (OneOf l r) e = never e
+nothing_is (Both l r) e = never e
+
+something : (due : Due) → due ≡ Nothing → is_nothing due ≡ false → ⊥
+something due none e = never (sym e ∙ ap is_nothing none)
 
 yes_or_no : {A : Type 0} → Dec A → A ⊎ (A → ⊥)
 yes_or_no (yes a) = inl a

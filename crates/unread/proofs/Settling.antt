@@ -1,40 +1,28 @@
--- The answer by what a tree comes to: wrong, too long, no room, or its run.
+-- The answer by what a tree comes to: too long, no room, or its run.
 use Prim.Native.Nat.{ℕ, ◌≤◌, ◌<◌}
 use native.Mathlib.Omega.{arith}
-use mathlib.Core.Path.{◌≡◌, refl, sym, ap, ◌∙◌}
-use mathlib.Core.Bool.{Bool, true, false}
+use mathlib.Core.Path.{◌≡◌, refl, sym, ◌∙◌, subst}
 use mathlib.Core.List.{List}
-use lib.Dec.{ltb}
-use lib.ListN.{length, length-replicate}
-use lib.Seq.{sets, length-sets}
-use borrow.Author.Tests.{ltb-true, ltb-false, lt-ltb, le-ltb}
+use lib.ListN.{length}
+use borrow.Author.Tests.{lt-ltb, le-ltb}
 use Rattle.words.specs.Words.{zeros}
 use Rattle.words.proofs.Stored.{sets-zeros}
-use Rattle.written.specs.Written.{written, refused_with, with_zeros, handed_over, out}
+use Rattle.written.specs.Written.{written, Out, refused_with, with_zeros, handed_over, out}
+use Rattle.book.specs.Book.{Book}
 use Rattle.book.specs.Form.{DONE, book_of}
 use Rattle.verdict.specs.Judges.{judgement, Judges}
-use Rattle.trees.specs.Trees.{events}
-use Rattle.unread.specs.declared.Outcome.{Outcome}
-use Rattle.unread.specs.Unreads.{TREE, RUN-LONG, RUN-ROOM, MOST-EVENTS, run_handed, Unreads, no_tree, a_tree, Comes, settled}
-
-module _ (o : Outcome) (run : List ℕ) where
-  pub settled_wrong : o.whole ≡ false → settled o run ≡ refused_with TREE o.place (length run)
-  unfolding settled
-  settled_wrong is = rw is
-
-  module _ (is : o.whole ≡ true) where
-    pub settled_long : MOST-EVENTS < o.events → settled o run ≡ refused_with RUN-LONG 0 (length run)
-    unfolding settled
-    settled_long long = rw (is, lt-ltb MOST-EVENTS o.events long)
-
-    module _ (few : o.events ≤ MOST-EVENTS) where
-      pub settled_room : length run < o.events → settled o run ≡ refused_with RUN-ROOM 0 (length run)
-      unfolding settled
-      settled_room short = rw (is, le-ltb MOST-EVENTS o.events few, lt-ltb (length run) o.events short)
-
-      pub settled_done : o.events ≤ length run → settled o run ≡ out (written DONE o.events 0) run
-      unfolding settled
-      settled_done fits = rw (is, le-ltb MOST-EVENTS o.events few, le-ltb (length run) o.events fits)
+use Rattle.trees.specs.Trees.{events, Wrong}
+use Rattle.std.specs.Prelude.{Result, Ok, Err}
+use Rattle.std.specs.Result.{MatchResult, IsErrAnd}
+use Rattle.std.proofs.lemmas.Result.{err_from_is_err_and}
+use Rattle.verdict.specs.declared.Refusal.{Refusal}
+use Rattle.verdict.specs.Refusals.{verdict_by}
+use Rattle.verdict.specs.Conflicts.{Leaves}
+use Rattle.verdict.proofs.Answers.{refusal_number}
+use Rattle.unread.specs.declared.UnreadError.{UnreadError}
+use Rattle.unread.specs.declared.UnreadError.TheVariants.{Judged, NoTree}
+use Rattle.unread.specs.Errors.{refused_by}
+use Rattle.unread.specs.Unreads.{refused, RUN-LONG, RUN-ROOM, MOST-EVENTS, run_handed, Unreads, no_tree, a_tree, Read, Comes}
 
 -- a run's ways out
 module _ (xs : List ℕ) (room : ℕ) where
@@ -51,42 +39,62 @@ module _ (xs : List ℕ) (room : ℕ) where
     unfolding run_handed
     handed_done fits = rw (le-ltb MOST-EVENTS (length xs) few, le-ltb room (length xs) fits)
 
--- a whole tree, whose events stand in a run that was clear, is answered by handing them over
-module _ (o : Outcome) (xs after : List ℕ) (room : ℕ) (is : o.whole ≡ true) (counted : o.events ≡ length xs)
-    (stand : after ≡ sets (zeros room) 0 xs) where
-  long : length after ≡ room
-  long = ap length stand ∙ length-sets (zeros room) 0 xs ∙ length-replicate room 0
+-- what a tree of a book that passes comes to, with its events in a run that was clear
+module _ {bytes records : List ℕ} (judges : Judges bytes (judgement DONE 0 0 0)) {room : ℕ} {after : List ℕ} {many : ℕ}
+    (read : Read (book_of bytes) records (zeros room) many after) where
+  by_run : {o : Out} → run_handed (events (book_of bytes).node records) room ≡ o → Unreads bytes records room o
+  by_run is = subst (Unreads bytes records room) is (a_tree judges read.accepts)
 
-  pub settled-whole : settled o after ≡ run_handed xs room
-  settled-whole = go (ltb MOST-EVENTS (length xs)) (ltb room (length xs)) refl refl
-    where
-      go : (many short : Bool) → ltb MOST-EVENTS (length xs) ≡ many → ltb room (length xs) ≡ short → settled o after ≡ run_handed xs room
-      go true short m s =
-          let many = ltb-true MOST-EVENTS (length xs) m in
-          settled_long o after is (omega (arith, many, counted)) ∙ ap (refused_with RUN-LONG 0) long ∙ sym (handed_long xs room many)
-      go false true m s =
-          let few = ltb-false MOST-EVENTS (length xs) m in
-          let none = ltb-true room (length xs) s in
-          settled_room o after is (omega (arith, few, counted)) (omega (arith, none, counted, long))
-          ∙ ap (refused_with RUN-ROOM 0) long
-          ∙ sym (handed_room xs room few none)
-      go false false m s =
-          let few = ltb-false MOST-EVENTS (length xs) m in
-          let fits = ltb-false room (length xs) s in
-          let bytes_are : after ≡ with_zeros xs room = stand ∙ sets-zeros room xs fits in
-          settled_done o after is (omega (arith, few, counted)) (omega (arith, fits, counted, long))
-          ∙ (λ i. out (written DONE (counted i) 0) (bytes_are i))
-          ∙ sym (handed_done xs room few fits)
+  pub too_many : MOST-EVENTS < many → Unreads bytes records room (refused_with RUN-LONG 0 room)
+  too_many long = by_run (handed_long _ room (omega (arith, long, read.counted)))
 
--- what a tree of a book that passes comes to is answered so
-pub answered : {bytes records before after : List ℕ} {room : ℕ} (o : Outcome) → Judges bytes (judgement DONE 0 0 0)
-    → Comes (book_of bytes) records before o after → before ≡ zeros room → Unreads bytes records room (settled o after)
-answered {bytes} {records} {before} {after} {room} o judges comes clear = go o.whole refl
-  where
-    long : length after ≡ room
-    long = comes.kept ∙ ap length clear ∙ length-replicate room 0
+  module _ (few : many ≤ MOST-EVENTS) where
+    pub no_room : room < many → Unreads bytes records room (refused_with RUN-ROOM 0 room)
+    no_room short = by_run (handed_room _ room (omega (arith, few, read.counted)) (omega (arith, short, read.counted)))
 
-    go : (t : Bool) → o.whole ≡ t → Unreads bytes records room (settled o after)
-    go true is =
-        rw (settled-whole o (events (book_of bytes).node records) after room is (comes.counted is) (rw clear at (comes.stand is))) (a_tree judges (comes.right is))
-    go false is = rw (settled_wrong o after is, long) (no_tree judges (comes.wrong is))
+    pub written_out : many ≤ room → Unreads bytes records room (out (written DONE many 0) after)
+    written_out fits =
+        let xs : List ℕ = events (book_of bytes).node records in
+        let enough : length xs ≤ room = omega (arith, fits, read.counted) in
+        let bytes_are : after ≡ with_zeros xs room = read.stand ∙ sets-zeros room xs enough in
+        by_run (handed_done xs room (omega (arith, few, read.counted)) enough ∙ (λ i. out (written DONE (sym read.counted i) 0) (sym bytes_are i)))
+
+-- what a refusal of the book comes to, and records that are no tree
+pub book_refused : {bytes records table : List ℕ} {room : ℕ} (of : Refusal) → Leaves bytes (verdict_by of) table
+    → Unreads bytes records room (refused_by (Judged of) room)
+book_refused of left = refused left.judges (refusal_number of)
+
+-- one that `?` hands on
+pub handed_on : {A : Type 0} (Passed : A → Type 0) (Refused : UnreadError → Type 0) (answer : Result A UnreadError) (of : UnreadError)
+    → IsErrAnd answer (λ x. x ≡ of) → Refused of → MatchResult answer Passed Refused
+handed_on Passed Refused answer of is holds = let p = err_from_is_err_and answer is in rw (p.1, p.2) holds
+
+-- records that are no tree, by what stands against them
+abbrev NotTree : Book → List ℕ → UnreadError → Type 0
+NotTree b records error = (place : ℕ) × (error ≡ NoTree place) × Wrong b records place
+
+by_place : {bytes records : List ℕ} {room : ℕ} (error : UnreadError) → Judges bytes (judgement DONE 0 0 0) → NotTree (book_of bytes) records error
+    → Unreads bytes records room (refused_by error room)
+by_place error judges not = rw not.1 (no_tree judges not.2)
+
+-- what reading a tree came to, with the place where it is wrong as what stands against it
+mapped : (b : Book) (records before after : List ℕ) (result : Result ℕ ℕ) (answer : Result ℕ UnreadError)
+    → MatchResult result (λ many. Read b records before many after) (λ place. Wrong b records place)
+    → MatchResult result (λ many. answer ≡ Ok many) (λ place. IsErrAnd answer (λ x. x ≡ NoTree place))
+    → MatchResult answer (λ many. Read b records before many after) (NotTree b records)
+mapped b records before after (Ok many) answer told is = rw is told
+mapped b records before after (Err place) answer told is =
+    let p = err_from_is_err_and answer is in rw (p.1, p.2) (place, refl, told)
+
+-- and so of a book that passes, with a clear run
+module _ (bytes : List ℕ) {records before after : List ℕ} {result : Result ℕ ℕ} {answer : Result ℕ UnreadError} (clear : before ≡ zeros (length before))
+    (comes : Comes (book_of bytes) records before result after)
+    (is : MatchResult result (λ many. answer ≡ Ok many) (λ place. IsErrAnd answer (λ x. x ≡ NoTree place))) where
+  pub tree_read : {many : ℕ} → answer ≡ Ok many → Read (book_of bytes) records (zeros (length before)) many after
+  tree_read {many} was =
+      let read : Read (book_of bytes) records before many after = rw was at (mapped _ _ _ _ result answer comes.told is) in
+      subst (λ xs. Read (book_of bytes) records xs many after) clear read
+
+  pub not_tree : Judges bytes (judgement DONE 0 0 0) → {error : UnreadError} → answer ≡ Err error
+      → Unreads bytes records (length before) (refused_by error (length before))
+  not_tree judges was = by_place _ judges (rw was at (mapped _ _ _ _ result answer comes.told is))

@@ -8,7 +8,6 @@ use mathlib.Core.Bool.{Bool, true, false}
 use mathlib.Core.List.{List, [], ◌∷◌, ◌++◌, append_assoc, append-nil}
 use lib.ListN.{length, take, get_or, set, length-append}
 use lib.Seq.{sets, length-sets, length-take-le, take-suc, take_all}
-use Rattle.words.proofs.Tests.{never}
 use Rattle.book.specs.Book.{Book}
 use Rattle.book.specs.declared.Node.{Node}
 use Rattle.book.specs.declared.Node.TheVariants.{Fail, Empty, Token, Either, Then, Tagged, Ref}
@@ -19,13 +18,12 @@ use Rattle.trees.specs.Trees.{is_emptied, own_events, events_at, events, Wrong, 
 use Rattle.trees.specs.Machine.{Powers, PowersOf, State, state, next, opened, kept, lapsed, allows, behind, goes, reads, read_tree}
 use Rattle.trees.proofs.ReadTrees.{read_before}
 use Rattle.trees.proofs.Places.{wrong_parts, due_lacks, nothing_due_tree}
-use Rattle.due.specs.Due.{is_nothing, DueBelow}
+use Rattle.due.specs.Due.{DueBelow}
 use Rattle.due.proofs.Inside.{read_inside, records_below, allowed_below}
 use Rattle.turns.specs.declared.Spot.{Spot}
-use Rattle.turns.specs.Slots.{Small, spot_of, Came, came, turn_of}
+use Rattle.turns.specs.Slots.{spot_of, came, turn_of}
 use Rattle.turns.proofs.Turning.{stack, Stands, keeps_length, turn_leads}
-use Rattle.unread.specs.declared.Outcome.{Outcome}
-use Rattle.unread.specs.Unreads.{Comes}
+use Rattle.unread.specs.Unreads.{Read}
 
 -- ---- events of records
 
@@ -180,42 +178,17 @@ module _ {b : Book} {powers : Powers} {records before : List ℕ} {at : ℕ} {sp
             (sym (rw (zero-add (length earlier)) at (sets-append earlier own before 0))));
       })
 
-  -- as many slots as before
-  pub on_long : {now : Spot} {slots' after' : List ℕ} → at < length records → allows powers spot.due (get_or records at 0) ≡ true
-      → came now slots' after' ≡ turn_of b records at spot slots after → length slots' ≡ length slots
-  on_long below may is =
-      ap (λ (c : Came). length c.slots) is
-      ∙ (turn_leads b powers records at spot slots after way.stands way.some_slot below may).long
-
   -- the run is as long as it was
   pub written_long : length after ≡ length before
   written_long = ap length way.written ∙ length-sets before 0 (events b.node (take at records))
 
   -- what a turn is called with
-  pub small : at < 2 ^ 63 → Small spot (length slots)
-  small few =
-      record {
-        some = way.some_slot;
-        few = way.stands.keeps.few;
-        counted = omega (arith, keeps_length way.stands.keeps, held_few b powers records at way.within way.stands.reads_to);
-      }
+  pub parts_small : at < 2 ^ 63 → spot.lost + spot.kept + 1 < 2 ^ 64
+  parts_small few =
+      omega (arith, keeps_length way.stands.keeps, held_few b powers records at way.within way.stands.reads_to)
 
   pub events_small : at < 2 ^ 63 → spot.events + 1 < 2 ^ 64
   events_small few = omega (arith, way.counted, few_events b.node (take at records), length-take-le at records way.within)
-
--- nothing is due, by its test
-pub nothing_is : (due : Due) → is_nothing due ≡ true → due ≡ Nothing
-nothing_is Nothing e = refl
-nothing_is (Part n) e = never e
-nothing_is (Taking n) e = never e
-nothing_is (OneOf l r) e = never e
-nothing_is (Both l r) e = never e
-
-pub something : (due : Due) → due ≡ Nothing → is_nothing due ≡ false → ⊥
-something due none e = never (sym e ∙ ap is_nothing none)
-
-abbrev pub outcome : Bool → ℕ → ℕ → Outcome
-outcome whole place events = record { whole = whole; place = place; events = events }
 
 -- of a book that passes, whose facts tell what the nodes can do
 module _ {b : Book} (passes : Passes b) {powers : Powers} (known : PowersOf b.node powers) {records before : List ℕ} {at : ℕ} {spot : Spot}
@@ -237,36 +210,23 @@ module _ {b : Book} (passes : Passes b) {powers : Powers} (known : PowersOf b.no
           rw same (allowed_below passes.well_formed known spot.due (get_or records at 0) may (rw same at given))
 
   -- a record that may not stand there
-  pub stopped : at < length records → allows powers spot.due (get_or records at 0) ≡ false
-      → Comes b records before (outcome false at 0) after
-  stopped below bars =
-      record {
-        wrong = λ is. wrong_at (wrong_parts passes known records at below way.stands.reads_to bars);
-        right = λ is. never is;
-        counted = λ is. never is;
-        stand = λ is. never is;
-        kept = written_long way;
-      }
+  pub stopped : at < length records → allows powers spot.due (get_or records at 0) ≡ false → Wrong b records at
+  stopped below bars = wrong_at (wrong_parts passes known records at below way.stands.reads_to bars)
 
   -- the end of the records
-  pub ended : length records ≤ at → {t : Bool} → t ≡ is_nothing spot.due → Comes b records before (outcome t at spot.events) after
-  ended past is =
-      record {
-        wrong = λ e. lacks (sym is ∙ e);
-        right = λ e. nothing_due_tree passes known records read (nothing_is spot.due (sym is ∙ e));
-        counted = λ e. rw all at way.counted;
-        stand = λ e. rw all at way.written;
-        kept = written_long way;
-      }
-    where
-      all : take at records ≡ records
-      all = take_all at records past
+  module _ (past : length records ≤ at) where
+    all : take at records ≡ records
+    all = take_all at records past
 
-      end : at ≡ length records
-      end = omega (arith, past, way.within)
+    read : read_tree b powers records ≡ goes (state spot.due way.stands.held)
+    read = rw all at way.stands.reads_to
 
-      read : read_tree b powers records ≡ goes (state spot.due way.stands.held)
-      read = rw all at way.stands.reads_to
+    pub ended : spot.due ≡ Nothing → Read b records before spot.events after
+    ended none = record {
+      accepts = nothing_due_tree passes known records read none;
+      counted = rw all at way.counted;
+      stand = rw all at way.written;
+    }
 
-      lacks : is_nothing spot.due ≡ false → Wrong b records at
-      lacks e = rw end (more_due (due_lacks passes known records read (λ none. something spot.due none e)))
+    pub lacking : (spot.due ≡ Nothing → ⊥) → Wrong b records (length records)
+    lacking some = more_due (due_lacks passes known records read some)

@@ -1,2 +1,3 @@
 pub mod Unreads
+pub mod Errors
 pub mod Written

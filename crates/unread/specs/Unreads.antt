@@ -1,14 +1,13 @@
 -- What writing the run of a tree comes to: the book's own refusals, 23 to 25, or done with the run.
-use Rattle.std.specs.Prelude.{ℕ, ◌≡◌, true, false, cond, ◌≢◌, List, ltb, length}
+use Rattle.std.specs.Prelude.{ℕ, ◌≡◌, cond, ◌≢◌, List, ltb, length, Result, MatchResult}
 use Rattle.std.proofs.lemmas.List.Edits.{sets}
-use Rattle.written.specs.Written.{written, Out, refused_with, handed_over, out}
+use Rattle.written.specs.Written.{Out, refused_with, handed_over}
 use Rattle.book.specs.Book.{Book}
 use Rattle.book.specs.Form.{DONE, book_of}
 use Rattle.verdict.specs.declared.Verdict.{Verdict}
 use Rattle.verdict.specs.Judges.{judgement, Judges}
 use Rattle.meaning.specs.Meaning.{Accepts}
 use Rattle.trees.specs.Trees.{events, Wrong}
-use Rattle.unread.specs.declared.Outcome.{Outcome}
 
 -- the answers' numbers, after those of judging
 abbrev pub TREE : ℕ
@@ -47,19 +46,13 @@ pub data Unreads (bytes records : List ℕ) (room : ℕ) : Out → Type 0 where
       → Accepts (book_of bytes) run records
       → Unreads bytes records room (run_handed run room)
 
--- what reading a tree comes to, with a run before and after it: the place where it is wrong, or that it is one; then
--- its events stand in the run, so far as there is room for them
-pub record Comes (b : Book) (records before : List ℕ) (o : Outcome) (after : List ℕ) : Type 0 where
-  pub wrong : o.whole ≡ false → Wrong b records o.place
-  pub right : o.whole ≡ true → Accepts b (events b.node records) records
-  pub counted : o.whole ≡ true → o.events ≡ length (events b.node records)
-  pub stand : o.whole ≡ true → after ≡ sets before 0 (events b.node records)
-  pub kept : length after ≡ length before
+-- records are a tree, which has so many events, and these stand in a run as far as it has room for them
+pub record Read (b : Book) (records before : List ℕ) (many : ℕ) (after : List ℕ) : Type 0 where
+  pub accepts : Accepts b (events b.node records) records
+  pub counted : many ≡ length (events b.node records)
+  pub stand : after ≡ sets before 0 (events b.node records)
 
--- the answer by that, and what it leaves of the run
-unfoldable pub settled : Outcome → List ℕ → Out
-settled o run =
-    cond o.whole
-    (cond (ltb MOST-EVENTS o.events) (refused_with RUN-LONG 0 (length run))
-    (cond (ltb (length run) o.events) (refused_with RUN-ROOM 0 (length run)) (out (written DONE o.events 0) run)))
-    (refused_with TREE o.place (length run))
+-- what reading a tree comes to, with a run before and after it: it is one, with its events, or the place where it is wrong
+pub record Comes (b : Book) (records before : List ℕ) (result : Result ℕ ℕ) (after : List ℕ) : Type 0 where
+  pub told : MatchResult result (λ many. Read b records before many after) (λ place. Wrong b records place)
+  pub kept : length after ≡ length before

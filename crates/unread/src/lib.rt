@@ -1,126 +1,127 @@
 // From a tree to its run: numbers 23 to 25, after those of judging.
 #![tactic(auto)]
 
-ghost use Rattle.std.specs.Prelude.{◌≡◌, ◌<◌, length};
+ghost use Rattle.std.specs.Prelude.{◌≡◌, ◌≤◌, length, MatchResult};
+ghost use Rattle.words.specs.Words.{zeros};
 ghost use Rattle.book.specs.Form.{DONE, form_of, book_of};
-ghost use Rattle.rules.specs.Facts.{table_size};
+ghost use Rattle.rules.specs.Facts.{flat, table_size};
 ghost use Rattle.rules.specs.Growth.{Blank};
-ghost use Rattle.written.specs.Written.{out, Hands};
-ghost use Rattle.verdict.specs.Judges.{judgement, Judges};
-ghost use Rattle.verdict.specs.Conflicts.{Known};
-ghost use Rattle.unread.specs.Unreads.{Comes, settled, Unreads};
+ghost use Rattle.written.specs.Written.{written, out, Hands};
+ghost use Rattle.verdict.specs.Judges.{judgement};
+ghost use Rattle.verdict.specs.Conflicts.{Leaves};
+ghost use Rattle.unread.specs.declared.UnreadError.TheVariants.{Judged};
+ghost use Rattle.unread.specs.Unreads.{Comes, Unreads};
+ghost use Rattle.unread.specs.Errors.{refused_by};
 
-use book::DONE;
-use due::{allowed, is_nothing};
+use book::{Book, DONE};
+use due::Powers;
+use rules::{NodeFacts, SMALL_TABLE, TABLE};
 use trees::Due;
-use turns::{Spot, turn};
-use words::clear_bytes;
-use written::{Written, refuse};
+use turns::Turns;
+use verdict::{Refusal, Verdict};
+use written::{RUN_LONG, RUN_ROOM, Written, refuse};
 
-// The answers' numbers, after those of judging.
+// The number of records that are no tree, after those of judging.
 pub const TREE: u32 = 23;
-
-pub const RUN_LONG: u32 = 24;
-
-pub const RUN_ROOM: u32 = 25;
 
 // The most events of a run.
 const MOST_EVENTS: usize = 65535;
 
-// How many parts due are kept in slots.
-const SLOTS: usize = 64;
-
-// The most nodes for which a small table of facts does.
-const SMALL_BOOK: usize = 64;
-
-// What a tree comes to: whether it is one, the place where it goes wrong or ends, and its events.
-#[derive(Clone, Copy)]
-pub struct Outcome {
-    pub whole: bool,
-    pub place: usize,
-    pub events: usize,
+// What stands against the run of a tree: what stands against the book; the place where the records go wrong or end too
+// soon; too many events, or no room for them.
+#[derive(Clone, Copy, PartialEq, Eq)]
+pub enum UnreadError {
+    Judged(Refusal),
+    NoTree(usize),
+    RunLong,
+    RunRoom,
 }
 
-// Reads a tree, and writes its events where there is room for them.
-fn read_tree(book: &[u8], table: &[u64], tree: &[u16], slots: &mut [u16], run: &mut [u8]) -> Outcome
-    requires judges { Judges book.now (judgement DONE 0 0 0) }
-    requires known { Known book.now (book_of book.now).count table.now }
-    requires slots_nonzero { 0 < length slots.old }
+impl From<Refusal> for UnreadError {
+    ghost from_gives = { λ refusal error. error ≡ Judged refusal };
+
+    fn from(refusal: Refusal) -> UnreadError {
+        UnreadError::Judged(refusal)
+    }
+}
+
+// Reads a tree of a book that passes, and writes its events where there is room for them: how many they are, or the place
+// where the records go wrong or end too soon.
+fn read_tree(book: &Book, table: &[NodeFacts], tree: &[u16], run: &mut [u8]) -> Result<usize, usize>
+    requires { Leaves book.now (judgement DONE 0 0 0) (flat table.now) }
     ensures { Comes (book_of book.now) tree.now run.old result run.new }
 {
-    let count = book::count_in(book);
-    let mut spot = Spot {
-        due: Due::Part(book::start_in(book)),
-        kept: 0,
-        lost: 0,
-        events: 0,
-    };
-    let mut at = 0;
-    while at < tree.len() {
-        let due = spot.due;
-        if !allowed(table, count, due, tree[at] as usize) {
-            return Outcome {
-                whole: false,
-                place: at,
-                events: 0,
-            };
+    let powers = Powers::of(table, book.count());
+    let mut turns = Turns::of(book);
+    for at in 0..tree.len() {
+        if !powers.allowed(turns.due(), usize::from(tree[at])) {
+            return Err(at);
         }
-        spot = turn(book, tree, at, count, spot, slots, run);
-        at += 1;
+        turns.turn(book, tree, at, run);
     }
-    let due = spot.due;
-    Outcome {
-        whole: is_nothing(due),
-        place: at,
-        events: spot.events,
+    match turns.due() {
+        Due::Nothing => Ok(turns.events()),
+        _ => Err(tree.len()),
     }
 }
 
-// The answer by what a tree came to, whose events stand in the run where there is room for them.
-#[tactic(auto, unfolding(crate::specs::Unreads::settled))]
-fn settle(outcome: Outcome, run: &mut [u8]) -> Written
-    ensures { Hands (settled outcome run.old) result run.new }
+// Writes the run of a tree into a clear buffer, with a table for the book's facts, blank and long enough where its form is
+// good: how many events it has, or what stands against it.
+fn write_run(
+    book: &[u8],
+    table: &mut [NodeFacts],
+    tree: &[u16],
+    run: &mut [u8],
+) -> Result<u32, UnreadError>
+    requires blank { (form_of book.now).number ≡ DONE → Blank (table_size (book_of book.now).count) (flat table.old) }
+    requires clear { run.old ≡ zeros (length run.old) }
+    ensures { MatchResult result
+        (λ events. Unreads book.now tree.now (length run.old) (out (written DONE events 0) run.new))
+        (λ error. Unreads book.now tree.now (length run.old) (refused_by error (length run.old))) }
 {
-    if !outcome.whole {
-        return refuse(TREE, outcome.place as u64, run);
+    let passed = verdict::judge(book, table)?;
+    let events = read_tree(&passed, table, tree, run).map_err(UnreadError::NoTree)?;
+    if MOST_EVENTS < events {
+        return Err(UnreadError::RunLong);
     }
-    if MOST_EVENTS < outcome.events {
-        return refuse(RUN_LONG, 0, run);
+    if run.len() < events {
+        return Err(UnreadError::RunRoom);
     }
-    if run.len() < outcome.events {
-        return refuse(RUN_ROOM, 0, run);
-    }
-    Written {
-        number: DONE,
-        size: outcome.events as u32,
-        place: 0,
+    Ok(events as u32)
+}
+
+// The refusal with the number and place of what stands against a run, and a clear buffer.
+fn refuse_by(error: UnreadError, run: &mut [u8]) -> Written
+    ensures { Hands (refused_by error (length run.old)) result run.new }
+{
+    match error {
+        UnreadError::Judged(refusal) => {
+            let verdict = Verdict::from(refusal);
+            refuse(verdict.number, u64::from(verdict.place), run)
+        }
+        UnreadError::NoTree(place) => refuse(TREE, place as u64, run),
+        UnreadError::RunLong => refuse(RUN_LONG, 0, run),
+        UnreadError::RunRoom => refuse(RUN_ROOM, 0, run),
     }
 }
 
-// Writes the run of a tree of a book that passes, with its facts at hand: TREE, RUN LONG, RUN ROOM, or done.
-fn put_run(book: &[u8], table: &[u64], tree: &[u16], run: &mut [u8]) -> Written
-    requires judges { Judges book.now (judgement DONE 0 0 0) }
-    requires known { Known book.now (book_of book.now).count table.now }
+// Writes the run of a tree of a book with a table of the facts of so many nodes.
+fn unread_by<const NODES: usize>(book: &[u8], tree: &[u16], run: &mut [u8]) -> Written
+    requires large { (form_of book.now).number ≡ DONE → (book_of book.now).count ≤ NODES }
+    requires few { NODES ≤ 512 }
     ensures { Unreads book.now tree.now (length run.old)
         (out result run.new) }
 {
-    clear_bytes(run);
-    let mut slots = [0u16; SLOTS];
-    let outcome = read_tree(book, table, tree, &mut slots, run);
-    settle(outcome, run)
-}
-
-// Writes the run of a tree, with a table for the book's facts, blank and long enough where its form is good.
-fn unread_by(book: &[u8], table: &mut [u64], tree: &[u16], run: &mut [u8]) -> Written
-    requires { (form_of book.now).number ≡ DONE → Blank (table_size (book_of book.now).count) table.old }
-    ensures { Unreads book.now tree.now (length run.old)
-        (out result run.new) }
-{
-    let verdict = verdict::judge(book, table);
-    if verdict.number != DONE {
-        return refuse(verdict.number, verdict.place as u64, run);
+    run.fill(0);
+    let mut table = [NodeFacts::NONE; NODES];
+    match write_run(book, &mut table, tree, run) {
+        Ok(size) => Written {
+            number: DONE,
+            size,
+            place: 0,
+        },
+        Err(error) => refuse_by(error, run),
     }
-    put_run(book, table, tree, run)
 }
 
 // Writes the run of a tree of a book, for any bytes, records and room: done with the run, or the first of the book's
@@ -129,10 +130,9 @@ pub fn unread(book: &[u8], tree: &[u16], run: &mut [u8]) -> Written
     ensures { Unreads book.now tree.now (length run.old)
         (out result run.new) }
 {
-    if book::count_claimed(book) <= SMALL_BOOK {
-        let mut table = [0u64; rules::SMALL_TABLE];
-        return unread_by(book, &mut table, tree, run);
+    if book::count_claimed(book) <= SMALL_TABLE {
+        unread_by::<SMALL_TABLE>(book, tree, run)
+    } else {
+        unread_by::<TABLE>(book, tree, run)
     }
-    let mut table = [0u64; rules::TABLE];
-    unread_by(book, &mut table, tree, run)
 }

@@ -1,28 +1,23 @@
 -- A book of good form, as the functions that judge it read it from its bytes, and tables for its facts.
 use Prim.Native.Nat.{ℕ, ◌≤◌, ◌<◌}
 use native.Mathlib.Omega.{arith}
-use mathlib.Core.Path.{◌≡◌, ap, subst}
+use mathlib.Core.Path.{◌≡◌, ap}
 use mathlib.Core.List.{List}
-use lib.ListN.{length}
-use Rattle.words.specs.Words.{zeros}
 use Rattle.book.specs.declared.Node.{Node}
 use Rattle.book.specs.Book.{WellFormed, Proper, fail_is, empty_is, token_is, either_is, then_is, tagged_is, ref_is}
 use Rattle.book.specs.Decode.{nodes, GoodNodes}
-use Rattle.book.specs.Form.{DONE, count_claimed, nodes_at, form_of, book_of}
-use Rattle.book.proofs.Decoded.{Formed, formed, well_formed, claimed_is}
-use Rattle.rules.specs.Facts.{table_size, Facts}
+use Rattle.book.specs.Form.{DONE, nodes_at, form_of, book_of}
+use Rattle.book.proofs.Decoded.{Formed, formed, well_formed}
+use Rattle.rules.specs.Facts.{flat, table_size}
 use Rattle.rules.specs.Growth.{Blank}
-use Rattle.rules.proofs.Growing.{blank-zeros, blank_less}
-use Rattle.verdict.specs.Conflicts.{GoodBook, Known}
+use lib.ListN.{replicate}
+use Rattle.rules.proofs.Flat.{nothing_known, flat_fresh}
+use Rattle.verdict.specs.Conflicts.{GoodBook}
 
--- a table of zeros for any book of good form
-pub table-blank : (bytes : List ℕ) → (form_of bytes).number ≡ DONE → Blank (table_size (book_of bytes).count) (zeros 2048)
-table-blank bytes good = blank_less (omega (arith, (well_formed (formed bytes good)).few_nodes)) (blank-zeros 2048)
-
--- and a small one for a book of good form that claims few nodes
-pub small_blank : (bytes : List ℕ) {claimed : ℕ} → claimed ≡ count_claimed bytes → claimed ≤ 64 → (form_of bytes).number ≡ DONE
-    → Blank (table_size (book_of bytes).count) (zeros 256)
-small_blank bytes is few good = blank_less {least = 256} (omega (arith, is, few, claimed_is (formed bytes good))) (blank-zeros 256)
+-- a fresh table for any book of good form
+pub table-blank : (bytes : List ℕ) → (form_of bytes).number ≡ DONE
+    → Blank (table_size (book_of bytes).count) (flat (replicate 512 nothing_known))
+table-blank bytes good = flat_fresh 512 (well_formed (formed bytes good)).few_nodes
 
 -- nodes that are proper for fewer kinds are proper for more
 proper_wider : {kinds more count own : ℕ} {x : Node} → kinds ≤ more → Proper kinds count own x → Proper more count own x
@@ -63,12 +58,3 @@ module _ {bytes : List ℕ} {count : ℕ} (good : GoodBook bytes count) where
   pub look_up : nodes bytes (nodes_at bytes) count ≡ (book_of bytes).node
   unfolding book_of
   look_up = ap (nodes bytes (nodes_at bytes)) good.count_is
-
-  -- its facts in a table
-  pub facts_known : {table : List ℕ} → table_size count ≤ length table → Facts (nodes bytes (nodes_at bytes) count) count table
-      → Known bytes count table
-  facts_known {table} long facts = record { good = good; long = long; facts = subst (λ node. Facts node count table) look_up facts }
-
--- what is known of a book with so many nodes is known with its own count
-pub known_own : {bytes table : List ℕ} {count : ℕ} → Known bytes count table → Known bytes (book_of bytes).count table
-known_own {bytes} {table} known = subst (λ n. Known bytes n table) known.good.count_is known

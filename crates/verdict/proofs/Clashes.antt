@@ -1,34 +1,33 @@
 -- What clashes at a node is told by the facts of the node's left and right, and tells whether the node has a conflict.
 use Prim.Native.Nat.{ℕ, ◌^◌, ◌≤◌, ◌<◌}
-use mathlib.Core.Path.{◌≡◌, refl, sym, ◌∙◌, subst, subst₂}
-use mathlib.Core.Bool.{not, true≢false}
+use mathlib.Core.Path.{◌≡◌, refl, sym, subst, subst₂}
+use mathlib.Core.Bool.{Bool, true, false, not, ◌||◌, true≢false}
 use mathlib.Core.List.{List}
 use mathlib.Core.Logic.Iff
 use mathlib.Core.Logic.{◌↔◌, ◌≢◌, inl, inr, ⊎_elim}
 use native.Mathlib.Decide.{ℕ_discrete}
 use native.Mathlib.Omega.{arith}
-use borrow.Author.Tests.{eq-eqb, ne_eqb}
+use borrow.Author.Tests.{eqb-true, eqb-false, not-true, not-false}
 use lib.Dec.{eqb}
-use lib.Bits.{and_le_l, and_le_r, or_lt}
-use lib.ListN.{get_or}
-use Rattle.kinds.specs.Kinds.{Has, in_both, joined}
-use Rattle.kinds.proofs.Laws.{none, has_single, has_join, has_shared, lowest_is}
+use lib.Bits.{and_le_l, or_lt}
+use lib.ListN.{length}
+use Rattle.kinds.specs.Kinds.{Has, has?, in_both, joined}
+use Rattle.kinds.proofs.Laws.{none, has?_is, has_join, has_shared, lowest_is}
 use Rattle.book.specs.Book.{WellFormed, Proper}
-use Rattle.book.specs.Decode.{node_at}
-use Rattle.book.specs.Form.{nodes_at, book_of}
-use Rattle.book.proofs.Decoded.{book_node}
+use Rattle.book.specs.Form.{book_of}
 use Rattle.book.specs.declared.Node.{Node}
 use Rattle.book.specs.declared.Node.TheVariants.{Fail, Empty, Token, Either, Then, Tagged, Ref}
 use Rattle.grammar.specs.Rules.{Nullable, First, Snf, Conflict, c_nullable, c_first, c_follow}
 use Rattle.rules.specs.declared.NodeFacts.{NodeFacts}
-use Rattle.rules.specs.Facts.{facts_at}
+use Rattle.rules.specs.Facts.{flat, facts_at}
+use Rattle.rules.proofs.Flat.{flat_length}
 use Rattle.rules.specs.Step.{left_from, right_from}
 use Rattle.rules.proofs.Reading.{left-inside, right_inside}
 use Rattle.rules.proofs.Laws.{first_iff, snf_iff}
 use Rattle.verdict.specs.declared.Clash.{Clash}
 use Rattle.verdict.specs.Judges.{Clashing, in_both_first, in_snf_and_first, BothNullable, both_nullable, Told}
-use Rattle.verdict.specs.Conflicts.{Known, clash_of, Found, Conflicting, Clear}
-use Rattle.verdict.proofs.Books.{book_well_formed, nodes_good}
+use Rattle.verdict.specs.Conflicts.{Known, clash_of, flag}
+use Rattle.verdict.proofs.Books.{book_well_formed}
 
 -- ---- what is told, and conflicts
 
@@ -64,14 +63,15 @@ module _ {node : ℕ → Node} where
   told_clear {both = both} {clash = clash} told e (c_follow {k = k} a b) =
       none (rw e at ((has_join both clash k).1 (inr ((told.clash_is k).1 (in_snf_and_first a b)))))
 
--- whether a node has a conflict, by what is told of it
-pub conflicting_is : {node : ℕ → Node} {n both clash : ℕ} → Told node (node n) both clash
-    → Found (Conflicting node) (Clear node) n (not (eqb (joined both clash) 0))
-conflicting_is {node} {n} {both} {clash} told = go (ℕ_discrete (joined both clash) 0)
-  where
-    go : Dec (joined both clash ≡ 0) → Found (Conflicting node) (Clear node) n (not (eqb (joined both clash) 0))
-    go (yes e) = rw (eq-eqb _ _ e) (record { found = λ q. absurd (true≢false (sym q)); passed = λ q. told_clear told e })
-    go (no f) = rw (ne_eqb _ _ f) (record { found = λ q. told_conflict told f; passed = λ q. absurd (true≢false q) })
+-- what clashes at a node, by what is told of it: something, where both sides are nullable or a kind clashes
+module _ {node : ℕ → Node} {at : Node} where
+  pub clashes_some : (both : Bool) {kinds : ℕ} → Told node at (flag both) kinds → (both || not (eqb kinds 0)) ≡ true → Conflict node at
+  clashes_some true told some = nullable_conflict (told.flag_is.0 refl)
+  clashes_some false {kinds} told some = clashing_conflict ((told.clash_is _).0 ((lowest_is told.clash_fits).found (eqb-false kinds 0 (not-true _ some))))
+
+  pub clashes_none : (both : Bool) {kinds : ℕ} → Told node at (flag both) kinds → (both || not (eqb kinds 0)) ≡ false → Conflict node at → ⊥
+  clashes_none true told nothing = absurd (true≢false nothing)
+  clashes_none false {kinds} told nothing = told_clear told (rw (eqb-true kinds 0 (not-false _ nothing)) refl)
 
 -- ---- what the facts tell
 
@@ -90,12 +90,14 @@ shared_is a b k p q = (
   (λ h. (has_shared a b k).1 (p.1 h.0, q.1 h.1)),
 )
 
--- the flag of a set that has its first kind
-flag_of : (mask : ℕ) → (in_both mask 1 ≡ 1) ↔ Has mask 0
-flag_of mask = (
-  (λ e. ((has_shared mask 1 0).0 (record { bit = omega (arith, e) })).0),
-  (λ h. omega (arith, ((has_shared mask 1 0).1 (h, (has_single 0 0).1 refl)).bit, and_le_r mask 1)),
-)
+-- the flag of a test, which is set where the test holds
+pub flag_of : (test : Bool) → flag test ≤ 1
+flag_of true = omega arith
+flag_of false = omega arith
+
+pub flag_set : (test : Bool) → (flag test ≡ 1) ↔ (test ≡ true)
+flag_set true = ((λ _. refl), (λ _. refl))
+flag_set false = ((λ e. absurd (omega (arith, e))), (λ e. absurd (true≢false (sym e))))
 
 module _ {node : ℕ → Node} where
   -- nothing is told of a node that can have no conflict
@@ -138,7 +140,7 @@ module _ {node : ℕ → Node} where
 module _ {node : ℕ → Node} {left right : NodeFacts} where
   -- what the facts of the left and the right tell is what is to be told of the node
   told_right : (own : ℕ) (at : Node) → FactsOf node (left_from own at) left → FactsOf node (right_from own at) right
-      → Told node at (clash_of at left right).both (clash_of at left right).kinds
+      → Told node at (flag (clash_of at left right).both) (clash_of at left right).kinds
   unfolding clash_of
   told_right own Fail p q = told_nothing (elim [ ])
   told_right own Empty p q = told_nothing (elim [ ])
@@ -146,9 +148,9 @@ module _ {node : ℕ → Node} {left right : NodeFacts} where
   told_right own (Either l r) p q =
       told_either (omega (arith, and_le_l left.first right.first, p.first_fits))
       (λ k. shared_is left.first right.first k (p.first_is k) (q.first_is k))
-      (and_le_r (in_both left.nullable right.nullable) 1)
-      (Iff.trans (flag_of (in_both left.nullable right.nullable))
-      (shared_is left.nullable right.nullable 0 p.nullable_is q.nullable_is))
+      (flag_of (has? (in_both left.nullable right.nullable) 0))
+      (Iff.trans (flag_set (has? (in_both left.nullable right.nullable) 0))
+      (Iff.trans (has?_is (in_both left.nullable right.nullable) 0) (shared_is left.nullable right.nullable 0 p.nullable_is q.nullable_is)))
   told_right own (Then l r) p q =
       told_then (omega (arith, and_le_l left.snf right.first, p.snf_fits))
       (λ k. shared_is left.snf right.first k (p.snf_is k) (q.first_is k))
@@ -163,30 +165,31 @@ module _ {bytes table : List ℕ} {count : ℕ} (known : Known bytes count table
   proper = rw known.good.count_is wf.proper
 
   -- a table that has a book's facts has those of each node
-  facts_of : ((i : ℕ) → get_or table i 0 < 2 ^ 64) → {n : ℕ} → n < count → FactsOf (book_of bytes).node n (facts_at table n)
-  facts_of fits {n} below = record {
-    first_fits = fits _;
-    snf_fits = fits _;
+  facts_of : {n : ℕ} → n < count → FactsOf (book_of bytes).node n (facts_at table n)
+  facts_of {n} below = record {
+    first_fits = known.narrow _;
+    snf_fits = known.narrow _;
     nullable_is = known.facts.nullable_is n 0 below (omega arith);
-    first_is = first_iff known.facts fits wf.few_kinds proper below;
-    snf_is = snf_iff known.facts fits wf.few_kinds proper below;
+    first_is = first_iff known.facts known.narrow wf.few_kinds proper below;
+    snf_is = snf_iff known.facts known.narrow wf.few_kinds proper below;
   }
 
   -- a node that was read
   module _ {n : ℕ} (below : n < count) {at : Node} (read : at ≡ (book_of bytes).node n) where
-    read_at : at ≡ node_at bytes (nodes_at bytes) n
-    read_at = read ∙ book_node bytes n (rw known.good.count_is at below)
-
     pub left_in : left_from n at < count
-    left_in = left-inside (nodes_good known.good) below read_at
+    left_in = rw known.good.count_is (left-inside bytes known.good.form (rw known.good.count_is at below) read)
 
     pub right_in : right_from n at < count
-    right_in = right_inside (nodes_good known.good) below read_at
+    right_in = rw known.good.count_is (right_inside bytes known.good.form (rw known.good.count_is at below) read)
 
     -- what is told of it
-    pub told_read : ((i : ℕ) → get_or table i 0 < 2 ^ 64) → {l r : ℕ} {left right : NodeFacts} {clash : Clash} → l ≡ left_from n at
+    pub told_read : {l r : ℕ} {left right : NodeFacts} {clash : Clash} → l ≡ left_from n at
         → left ≡ facts_at table l → r ≡ right_from n at → right ≡ facts_at table r → clash ≡ clash_of at left right
-        → Told (book_of bytes).node ((book_of bytes).node n) clash.both clash.kinds
-    told_read fits l-is left_is r-is right_is clash_is =
-        subst₂ (λ (x : Node) (c : Clash). Told (book_of bytes).node x c.both c.kinds) read (sym clash_is)
-        (told_right n at (rw (left_is, l-is) (facts_of fits left_in)) (rw (right_is, r-is) (facts_of fits right_in)))
+        → Told (book_of bytes).node ((book_of bytes).node n) (flag clash.both) clash.kinds
+    told_read l-is left_is r-is right_is clash_is =
+        subst₂ (λ (x : Node) (c : Clash). Told (book_of bytes).node x (flag c.both) c.kinds) read (sym clash_is)
+        (told_right n at (rw (left_is, l-is) (facts_of left_in)) (rw (right_is, r-is) (facts_of right_in)))
+
+-- a table that has a book's facts has room for each node
+pub node_room : (table : List NodeFacts) {bytes : List ℕ} {count n : ℕ} → Known bytes count (flat table) → n < count → n < length table
+node_room table known below = omega (arith, below, known.long, flat_length table)

@@ -1,5 +1,5 @@
 -- Judging has an answer, for all bytes, and it computes.
-use Prim.Native.Nat.{ℕ, zero, suc, ◌^◌, ◌≤◌, ◌<◌}
+use Prim.Native.Nat.{ℕ, zero, suc, ◌^◌, ◌<◌}
 use native.Mathlib.Omega.{arith}
 use native.Mathlib.Nat.{lt_of_lt_of_le}
 use native.Mathlib.Decide.{ℕ_discrete}
@@ -26,7 +26,8 @@ use Rattle.rules.proofs.Marks.{productive_decided, nullable_decided, first_decid
 use Rattle.rules.proofs.Reaching.{reach_decided}
 use Rattle.verdict.specs.declared.Verdict.{Verdict}
 use Rattle.verdict.specs.Judges.{Told, Judges, malformed, unused, barren, conflict, passes}
-use Rattle.verdict.proofs.Clashes.{told_nothing, told_either, told_then, told_conflict, told_clear}
+use Rattle.verdict.specs.Conflicts.{flag}
+use Rattle.verdict.proofs.Clashes.{flag_of, flag_set, told_nothing, told_either, told_then, told_conflict, told_clear}
 
 unfoldable pub decide : {Of : ℕ → Type 0} → Decided Of → (i : ℕ) → Dec (Of i)
 decide {Of} d i = at (d.test i) (d.test_is i)
@@ -59,21 +60,6 @@ search {Of} {Not} d (suc count) =
 -- two facts that are tested are tested together
 both_tested : {a b : Bool} {P Q : Type 0} → (a ≡ true) ↔ P → (b ≡ true) ↔ Q → (a && b ≡ true) ↔ (P × Q)
 both_tested {a} {b} p q = ((λ e. let t = both a b e in (p.0 t.0, q.0 t.1)), (λ h. joined a b (p.1 h.0) (q.1 h.1)))
-
--- a test as a flag
-unfoldable pub flag : Bool → ℕ
-flag true = 1
-flag false = 0
-
-flag_small : (t : Bool) → flag t ≤ 1
-unfolding flag
-flag_small true = omega arith
-flag_small false = omega arith
-
-flag-set : (t : Bool) → (flag t ≡ 1) ↔ (t ≡ true)
-unfolding flag
-flag-set true = ((λ _. refl), (λ _. refl))
-flag-set false = ((λ e. absurd (omega (arith, e))), (λ e. never e))
 
 module _ (book : Book) (wf : WellFormed book) where
   -- the set of the kinds that are in a set that is tested and in FIRST of a node
@@ -112,8 +98,8 @@ module _ (book : Book) (wf : WellFormed book) where
   tells_right Empty = told_nothing (elim [ ])
   tells_right (Token k) = told_nothing (elim [ ])
   tells_right (Either l r) =
-      told_either (shared_small _ r) (shared_has _ (λ k. (first_decided book wf k).test_is l) r) (flag_small _)
-      (Iff.trans (flag-set _) (both_tested ((nullable_decided book wf).test_is l) ((nullable_decided book wf).test_is r)))
+      told_either (shared_small _ r) (shared_has _ (λ k. (first_decided book wf k).test_is l) r) (flag_of _)
+      (Iff.trans (flag_set _) (both_tested ((nullable_decided book wf).test_is l) ((nullable_decided book wf).test_is r)))
   tells_right (Then l r) = told_then (shared_small _ r) (shared_has _ (λ k. (snf_decided book wf k).test_is l) r)
   tells_right (Tagged l t) = told_nothing (elim [ ])
   tells_right (Ref l) = told_nothing (elim [ ])

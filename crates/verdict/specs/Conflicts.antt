@@ -1,28 +1,41 @@
--- What the functions that judge a book answer: the facts in a table, the lowest node that is not reachable, what
--- clashes at a node, the lowest conflict.
-use Rattle.std.specs.Prelude.{ℕ, ◌≤◌, ◌<◌, ◌≡◌, Bool, true, false, List, length}
-use Rattle.kinds.specs.Kinds.{in_both}
+-- What the functions that judge a book answer: the facts in a table, and what clashes at a node.
+use Rattle.std.specs.Prelude.{ℕ, ◌≤◌, ◌≡◌, Bool, false, cond, List, length}
+use Rattle.kinds.specs.Kinds.{in_both, has?}
 use Rattle.book.specs.declared.Node.{Node}
 use Rattle.book.specs.declared.Node.TheVariants.{Fail, Empty, Token, Either, Then, Tagged, Ref}
-use Rattle.book.specs.Book.{Book}
 use Rattle.book.specs.Form.{DONE, form_of, book_of}
-use Rattle.grammar.specs.Rules.{Conflict, Reach}
+use Rattle.grammar.specs.Rules.{Conflict}
 use Rattle.rules.specs.declared.NodeFacts.{NodeFacts}
-use Rattle.rules.specs.Facts.{table_size, Facts, IsMarked}
+use Rattle.rules.specs.Facts as rules
+use Rattle.rules.specs.Facts.{table_size}
+use Rattle.rules.specs.Growth.{Narrow}
 use Rattle.verdict.specs.declared.Clash.{Clash}
 use Rattle.verdict.specs.declared.Verdict.{Verdict}
-use Rattle.verdict.specs.Judges.{Judges}
+use Rattle.verdict.specs.Judges.{Judges, Told}
 
 -- a book of good form with so many nodes
 pub record GoodBook (bytes : List ℕ) (count : ℕ) : Type 0 where
   pub form : (form_of bytes).number ≡ DONE
   pub count_is : count ≡ (book_of bytes).count
 
--- such a book, whose facts stand in a table
+-- such a book, whose facts stand in a table's numbers, 64-bit numbers all
 pub record Known (bytes : List ℕ) (count : ℕ) (table : List ℕ) : Type 0 where
   pub good : GoodBook bytes count
   pub long : table_size count ≤ length table
-  pub facts : Facts (book_of bytes).node count table
+  pub facts : rules.Facts (book_of bytes).node count table
+  pub narrow : Narrow table
+
+-- a book's bytes, and a table's numbers
+pub record Facts : Type 0 where
+  pub bytes : List ℕ
+  pub table : List ℕ
+
+abbrev pub facts_of : List ℕ → List ℕ → Facts
+facts_of bytes table = record { bytes = bytes; table = table }
+
+-- the table has the facts of the book, which is of good form
+pub record AtHand (facts : Facts) : Type 0 where
+  pub known : Known facts.bytes (book_of facts.bytes).count facts.table
 
 -- what judging leaves: the verdict, and in the table the facts of a book that passes
 pub record Leaves (bytes : List ℕ) (verdict : Verdict) (table : List ℕ) : Type 0 where
@@ -31,38 +44,22 @@ pub record Leaves (bytes : List ℕ) (verdict : Verdict) (table : List ℕ) : Ty
 
 -- what clashes at a node by the facts of its left and right
 unfoldable pub clash_of : Node → NodeFacts → NodeFacts → Clash
-clash_of Fail left right = record { both = 0; kinds = 0 }
-clash_of Empty left right = record { both = 0; kinds = 0 }
-clash_of (Token k) left right = record { both = 0; kinds = 0 }
+clash_of Fail left right = record { both = false; kinds = 0 }
+clash_of Empty left right = record { both = false; kinds = 0 }
+clash_of (Token k) left right = record { both = false; kinds = 0 }
 clash_of (Either l r) left right = record {
-  both = in_both (in_both left.nullable right.nullable) 1;
+  both = has? (in_both left.nullable right.nullable) 0;
   kinds = in_both left.first right.first;
 }
-clash_of (Then l r) left right = record { both = 0; kinds = in_both left.snf right.first }
-clash_of (Tagged l t) left right = record { both = 0; kinds = 0 }
-clash_of (Ref l) left right = record { both = 0; kinds = 0 }
+clash_of (Then l r) left right = record { both = false; kinds = in_both left.snf right.first }
+clash_of (Tagged l t) left right = record { both = false; kinds = 0 }
+clash_of (Ref l) left right = record { both = false; kinds = 0 }
 
--- whether something is found at a number, where not it is passed
-pub record Found (Of Not : ℕ → Type 0) (n : ℕ) (answer : Bool) : Type 0 where
-  pub found : answer ≡ true → Of n
-  pub passed : answer ≡ false → Not n
+-- a test as a flag: 1 if it holds, else 0
+abbrev pub flag : Bool → ℕ
+flag test = cond test 1 0
 
--- the lowest number at which something is found, the count where there is none
-pub record LowestFound (Of Not : ℕ → Type 0) (count n : ℕ) : Type 0 where
-  pub within : n ≤ count
-  pub found : n < count → Of n
-  pub passed : (m : ℕ) → m < n → Not m
-
--- a node with a conflict, and one without
-abbrev pub Conflicting : (ℕ → Node) → ℕ → Type 0
-Conflicting node n = Conflict node (node n)
-
-abbrev pub Clear : (ℕ → Node) → ℕ → Type 0
-Clear node n = Conflict node (node n) → ⊥
-
--- the lowest node that is not marked, and the lowest that is not reachable from the start
-abbrev pub LowestUnmarked : List ℕ → ℕ → ℕ → Type 0
-LowestUnmarked marks = LowestFound (λ n. IsMarked marks n → ⊥) (IsMarked marks)
-
-abbrev pub LowestUnused : Book → ℕ → ℕ → Type 0
-LowestUnused book = LowestFound (λ n. Reach book.node book.start n → ⊥) (Reach book.node book.start)
+-- a node has a conflict, and what clashes there is told
+pub record Clashes (node : ℕ → Node) (at : Node) (clash : Clash) : Type 0 where
+  pub conflict : Conflict node at
+  pub told : Told node at (flag clash.both) clash.kinds

@@ -1,2 +1,3 @@
 pub mod Judges
 pub mod Conflicts
+pub mod Refusals

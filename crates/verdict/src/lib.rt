@@ -1,16 +1,22 @@
 // Judging a book: numbers 0 to 6, 19 and 22.
 #![tactic(auto)]
 
-ghost use Rattle.std.specs.Prelude.{◌≡◌, ◌<◌, ◌≤◌, ◌^◌, length};
+ghost use Rattle.std.specs.Prelude.{◌≡◌, ◌<◌, MatchOption, MatchResult};
 ghost use Rattle.book.specs.Form.{DONE, form_of, book_of};
-ghost use Rattle.grammar.specs.Passing.{AllReached};
-ghost use Rattle.rules.specs.Facts.{table_size, marks_size};
+ghost use Rattle.grammar.specs.Rules.{Conflict};
+ghost use Rattle.grammar.specs.Passing.{AllReached, Fruitful, NoConflict};
+ghost use Rattle.rules.specs.Facts.{flat, table_size};
 ghost use Rattle.rules.specs.Growth.{Blank};
-ghost use Rattle.verdict.specs.Judges.{Told, judgement, Judges};
-ghost use Rattle.verdict.specs.Conflicts.{GoodBook, Known, Leaves, clash_of};
-ghost use Rattle.verdict.specs.Conflicts.{Found, LowestFound, Conflicting, Clear, LowestUnmarked, LowestUnused};
+ghost use Rattle.verdict.specs.Judges.{judgement, Judges};
+ghost use Rattle.verdict.specs.Conflicts.{Leaves, clash_of, Clashes};
+ghost use Rattle.verdict.specs.declared.Refusal.TheVariants.{Form};
+ghost use Rattle.verdict.specs.Refusals.{verdict_by};
 
-use book::{DONE, Node};
+mod known;
+
+use book::{Book, BookError, Judged, Node};
+use kinds::has;
+pub use known::KnownBook;
 use rules::NodeFacts;
 
 // The answers' numbers, after those of a book's form.
@@ -20,7 +26,8 @@ pub const CONFLICT: u32 = 6;
 
 pub const UNUSED: u32 = 22;
 
-// What judging a book answers; of a conflict the flag that both sides are nullable, and the set of the kinds that clash.
+// What judging a book answers in numbers; of a conflict the flag that both sides are nullable, and the set of the kinds
+// that clash. Numbers and a flag stay here, since the theorems on `Judges` speak of this record.
 #[derive(Clone, Copy)]
 pub struct Verdict {
     pub number: u32,
@@ -29,148 +36,160 @@ pub struct Verdict {
     pub clash: u64,
 }
 
-// What clashes at a node: 1 if both sides are nullable, else 0, and the kinds.
-#[derive(Clone, Copy)]
-struct Clash {
-    both: u64,
-    kinds: u64,
+// What clashes at a node: whether both sides are nullable, and the kinds.
+#[derive(Clone, Copy, PartialEq, Eq)]
+pub struct Clash {
+    pub both: bool,
+    pub kinds: u64,
 }
 
-// The verdict with a number, a place, a flag and a set.
-fn verdict_of(number: u32, place: usize, both: u64, clash: u64) -> Verdict
-    requires { (place < 2 ^ 32) × (both < 2 ^ 32) }
-    ensures { result ≡ judgement number place both clash }
+// What stands against a book: its form, the lowest node that is not reachable, the start that can produce no run, or the
+// lowest node that has a conflict, with what clashes there.
+#[derive(Clone, Copy, PartialEq, Eq)]
+pub enum Refusal {
+    Form(BookError),
+    Unused(u32),
+    Barren(u32),
+    Conflict(u32, Clash),
+}
+
+impl From<BookError> for Refusal {
+    ghost from_gives = { λ error refusal. refusal ≡ Form error };
+
+    fn from(error: BookError) -> Refusal {
+        Refusal::Form(error)
+    }
+}
+
+impl From<Refusal> for Verdict {
+    ghost from_gives = { λ refusal verdict. verdict ≡ verdict_by refusal };
+
+    fn from(refusal: Refusal) -> Verdict {
+        match refusal {
+            Refusal::Form(error) => {
+                let judged = Judged::from(error);
+                plain(judged.number, judged.place)
+            },
+            Refusal::Unused(node) => plain(UNUSED, node),
+            Refusal::Barren(node) => plain(BARREN, node),
+            Refusal::Conflict(node, clash) => Verdict {
+                number: CONFLICT,
+                place: node,
+                both: u32::from(clash.both),
+                clash: clash.kinds,
+            },
+        }
+    }
+}
+
+// The verdict with a number and a place that is no conflict.
+fn plain(number: u32, place: u32) -> Verdict
+    ensures { result ≡ judgement number place 0 0 }
 {
     Verdict {
         number,
-        place: place as u32,
-        both: both as u32,
-        clash,
+        place,
+        both: 0,
+        clash: 0,
     }
 }
 
 // What clashes at a node by the facts of its left and right.
+#[tactic(auto, unfolding(crate::specs::Conflicts::clash_of))]
 fn clash_of(node: Node, left: NodeFacts, right: NodeFacts) -> Clash
     ensures { result ≡ clash_of node left right }
 {
     match node {
-        Node::Fail => Clash { both: 0, kinds: 0 },
-        Node::Empty => Clash { both: 0, kinds: 0 },
-        Node::Token(_) => Clash { both: 0, kinds: 0 },
         Node::Either(_, _) => Clash {
-            both: left.nullable & right.nullable & 1,
+            both: has(left.nullable & right.nullable, 0),
             kinds: left.first & right.first,
         },
         Node::Then(_, _) => Clash {
-            both: 0,
+            both: false,
             kinds: left.snf & right.first,
         },
-        Node::Tagged(_, _) => Clash { both: 0, kinds: 0 },
-        Node::Ref(_) => Clash { both: 0, kinds: 0 },
+        Node::Fail | Node::Empty | Node::Token(_) | Node::Tagged(_, _) | Node::Ref(_) => Clash {
+            both: false,
+            kinds: 0,
+        },
     }
 }
 
-// What clashes at a node of a book.
-fn clash_at(book: &[u8], count: usize, n: usize, table: &[u64]) -> Clash
-    requires known { Known book.now count table.now }
-    requires n_lt_count { n < count }
-    ensures { Told (book_of book.now).node ((book_of book.now).node n) result.both result.kinds }
+// What clashes at a node of a book, where anything does.
+fn clash_at(known: &KnownBook, n: usize) -> Option<Clash>
+    requires { n < (book_of known.now.bytes).count }
+    ensures { MatchOption result (Conflict (book_of known.now.bytes).node ((book_of known.now.bytes).node n) → ⊥)
+        (λ clash. Clashes (book_of known.now.bytes).node ((book_of known.now.bytes).node n) clash) }
 {
-    let node = book::node_in(book, n);
-    let left = rules::facts_at(table, rules::left_from(n, node));
-    let right = rules::facts_at(table, rules::right_from(n, node));
-    clash_of(node, left, right)
+    let node = known.book().node(n);
+    let left = known.facts(rules::left_from(n, node));
+    let right = known.facts(rules::right_from(n, node));
+    let clash = clash_of(node, left, right);
+    if clash.both | (clash.kinds != 0) {
+        Some(clash)
+    } else {
+        None
+    }
 }
 
-// Whether a node has a conflict.
-fn conflicting(book: &[u8], count: usize, n: usize, table: &[u64]) -> bool
-    requires known { Known book.now count table.now }
-    requires n_lt_count { n < count }
-    ensures { Found (Conflicting (book_of book.now).node) (Clear (book_of book.now).node) n result }
+// Whether a book is free of conflicts, else the lowest that it has.
+fn check_conflicts(known: &KnownBook) -> Result<(), Refusal>
+    requires reached { AllReached (book_of known.now.bytes) }
+    requires fruitful { Fruitful (book_of known.now.bytes) }
+    ensures { MatchResult result (λ _. NoConflict (book_of known.now.bytes))
+        (λ refusal. Judges known.now.bytes (verdict_by refusal)) }
 {
-    let clash = clash_at(book, count, n, table);
-    (clash.both | clash.kinds) != 0
-}
-
-// The lowest node that has a conflict, or the count where none has one.
-fn lowest_conflict(book: &[u8], count: usize, table: &[u64]) -> usize
-    requires { Known book.now count table.now }
-    ensures { LowestFound (Conflicting (book_of book.now).node) (Clear (book_of book.now).node) count result }
-{
-    let mut n = 0;
-    while n < count {
-        if conflicting(book, count, n, table) {
-            return n;
+    for n in 0..known.book().count() {
+        if let Some(clash) = clash_at(known, n) {
+            return Err(Refusal::Conflict(n as u32, clash));
         }
-        n += 1;
     }
-    n
+    Ok(())
 }
 
-// Judges a book of good form whose nodes are all reachable, with its facts at hand: BARREN, CONFLICT, or that it passes.
-fn judge_known(book: &[u8], count: usize, table: &[u64]) -> Verdict
-    requires known { Known book.now count table.now }
-    requires all_reached { AllReached (book_of book.now) }
-    ensures { Judges book.now result }
+// Whether the start of a book can produce some run.
+fn check_start(known: &KnownBook) -> Result<(), Refusal>
+    requires { AllReached (book_of known.now.bytes) }
+    ensures { MatchResult result (λ _. Fruitful (book_of known.now.bytes))
+        (λ refusal. Judges known.now.bytes (verdict_by refusal)) }
 {
-    let start = book::start_in(book);
-    let facts = rules::facts_at(table, start);
-    if !kinds::has(facts.productive, 0) {
-        return verdict_of(BARREN, start, 0, 0);
+    let start = known.book().start();
+    if has(known.facts(start).productive, 0) {
+        Ok(())
+    } else {
+        Err(Refusal::Barren(start as u32))
     }
-    let n = lowest_conflict(book, count, table);
-    if n < count {
-        let clash = clash_at(book, count, n, table);
-        return verdict_of(CONFLICT, n, clash.both, clash.kinds);
-    }
-    verdict_of(DONE, 0, 0, 0)
 }
 
-// The lowest node that is not marked, or the count where all are.
-fn lowest_unmarked(count: usize, marks: &[u64]) -> usize
-    requires count_bound { count ≤ 512 }
-    requires marks_size_in_bounds { marks_size ≤ length marks.now }
-    ensures { LowestUnmarked marks.now count result }
+// Whether all nodes of a book are reachable from its start, else the lowest that is not.
+fn check_reached(book: &Book) -> Result<(), Refusal>
+    ensures { MatchResult result (λ _. AllReached (book_of book.now)) (λ refusal. Judges book.now (verdict_by refusal)) }
 {
-    let mut i = 0;
-    while i < count {
-        if !rules::is_marked(marks, i) {
-            return i;
-        }
-        i += 1;
-    }
-    i
-}
-
-// The lowest node that is not reachable from the start, or the count where all are, with blank marks for the nodes.
-fn lowest_unused(book: &[u8], count: usize, marks: &mut [u64]) -> usize
-    requires good_book { GoodBook book.now count }
-    requires blank { Blank marks_size marks.old }
-    ensures { LowestUnused (book_of book.now) count result }
-{
-    let start = book::start_in(book);
-    if rules::reach(book, book::nodes_from(book), count, start, marks) {
-        return count;
-    }
-    lowest_unmarked(count, marks)
-}
-
-// Judges a book, for any bytes: the first of 1 to 4, 19, 22, 5 and 6, or that it passes, with its facts in the table.
-// Where the form is good the table is blank and long enough.
-pub fn judge(book: &[u8], table: &mut [u64]) -> Verdict
-    requires { (form_of book.now).number ≡ DONE → Blank (table_size (book_of book.now).count) table.old }
-    ensures { Leaves book.now result table.new }
-{
-    let form = book::form(book);
-    if form.number != DONE {
-        return verdict_of(form.number, form.place as usize, 0, 0);
-    }
-    let count = book::count_in(book);
     let mut marks = [0u64; rules::MARKS];
-    let unused = lowest_unused(book, count, &mut marks);
-    if unused < count {
-        return verdict_of(UNUSED, unused, 0, 0);
+    if rules::reach(book, &mut marks) {
+        return Ok(());
     }
-    rules::least_facts(book, book::nodes_from(book), count, table);
-    judge_known(book, count, table)
+    for n in 0..book.count() {
+        if !rules::is_marked(&marks, n) {
+            return Err(Refusal::Unused(n as u32));
+        }
+    }
+    Ok(())
+}
+
+// Judges a book, for any bytes: the first of 1 to 4, 19, 22, 5 and 6 that stands against it, or the book, with its facts
+// in the table. Where the form is good the table is blank and long enough.
+pub fn judge<'a>(book: &'a [u8], table: &mut [NodeFacts]) -> Result<Book<'a>, Refusal>
+    requires { (form_of book.now).number ≡ DONE → Blank (table_size (book_of book.now).count) (flat table.old) }
+    ensures { MatchResult result
+        (λ passed. (passed ≡ book.now) × Leaves book.now (judgement DONE 0 0 0) (flat table.new))
+        (λ refusal. Leaves book.now (verdict_by refusal) (flat table.new)) }
+{
+    let read = Book::read(book)?;
+    check_reached(&read)?;
+    rules::least_facts(&read, table);
+    let known = KnownBook::of(&read, table);
+    check_start(&known)?;
+    check_conflicts(&known)?;
+    Ok(read)
 }

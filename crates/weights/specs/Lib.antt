@@ -1,2 +1,3 @@
 pub mod Weight
 pub mod Falling
+pub mod Laws

@@ -1,12 +1,17 @@
 -- The first number at which a test fails: how a search for it goes on, and what its answer says.
 use mathlib.Core.Path.{◌≡◌, refl, sym, ap, ◌∙◌}
 use mathlib.Core.Bool.{Bool, true, false, cond}
+use mathlib.Core.List.{List}
 use Prim.Native.Nat.{ℕ, zero, suc, ◌+◌, ◌-◌, ◌≤◌, ◌<◌}
 use native.Mathlib.Decide.{ℕ_discrete}
 use native.Mathlib.Numerals.{add-one}
 use native.Mathlib.Omega.{arith}
 use borrow.Author.Tests.{leb-true, le-leb, lt-leb}
 use lib.Dec.{leb}
+use lib.ListN.{length, get_or}
+use Rattle.std.specs.Bool.{MatchBool}
+use Rattle.std.specs.List.{AllWithin, HoldsAt}
+use Rattle.words.proofs.Tests.{never, fails}
 use Rattle.words.specs.Lists.{first_bad, every}
 
 module _ (good : ℕ → Bool) where
@@ -113,3 +118,10 @@ module _ (good other : ℕ → Bool) where
   pub every-same : (count : ℕ) → ((n : ℕ) → n < count → good n ≡ other n) → every good count ≡ every other count
   unfolding every
   every-same count agree = ap (leb count) (first_same count 0 (λ m from below. agree m (omega arith)))
+
+-- whether every element of a list passes, by what a look at each of them has shown
+pub every_told : (good : ℕ → Bool) (xs : List ℕ) {test : Bool}
+    → MatchBool test (AllWithin (λ x. good x ≡ true) xs 0 (length xs)) ((k : ℕ) × (k < length xs) × HoldsAt (λ x. good x ≡ false) xs k)
+    → test ≡ every (λ i. good (get_or xs i 0)) (length xs)
+every_told good xs {test = true} all = sym (every_good _ (length xs) (λ i below. all i 0 (omega arith) below))
+every_told good xs {test = false} (k, below, bad) = sym (fails _ (λ all. never (sym (bad 0) ∙ every_is _ (length xs) all k below)))

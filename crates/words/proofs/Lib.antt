@@ -1,6 +1,5 @@
 pub mod Beginnings
 pub mod Bytes
-pub mod Cleared
 pub mod FirstBad
 pub mod Lists
 pub mod Same

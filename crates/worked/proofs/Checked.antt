@@ -26,7 +26,7 @@ use Rattle.running.specs.Running.{move_of, noted, take_off, logged, onward, row_
 use Rattle.running.specs.Stages.{staged_visit, staged_walk, staged_event, staged_finish, staged_reads, staged_reading, stage_of}
 use Rattle.compiler.specs.declared.Compiled.{Compiled}
 use Rattle.compiler.specs.Compiles.{answer, Compiles}
-use Rattle.verdict.proofs.Some.{decide, other_way, search, flag, shared, tells, conflict?, unreached?}
+use Rattle.verdict.proofs.Some.{decide, other_way, search, shared, tells, conflict?, unreached?}
 use Rattle.verdict.proofs.Some.{judged_fruitful, judged_start, judged_good, judged_form, judges_some}
 use Rattle.running.proofs.Found.{lengths_found, marks}
 use Rattle.compiler.proofs.Some.{by_verdict, compiles_some}
@@ -71,7 +71,7 @@ unfolding table book word_bytes flat_map computed said by_verdict compiles_some
     every same whole_at name_at name_new name_good names_good
     filled kept_or differ turned settled settle decided ruled given facts_decided fact_decided productive_decided nullable_decided
     first_decided snf_decided child? any reached? reach_decided
-    decide other_way search set_of flag shared tells conflict? unreached?
+    decide other_way search set_of shared tells conflict? unreached?
     judged_fruitful judged_start judged_good judged_form judges_some marks
     plan_bytes plan_contents book_body body_words values_from lists_from Bytes.row_of Bytes.rows_of Bytes.dues_of cell_of
     total length_of lower climb turn rested rest least_lengths lengths_found

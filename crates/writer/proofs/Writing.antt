@@ -2,17 +2,18 @@
 use mathlib.Core.Path.{◌≡◌, refl, sym, ap, ap₂, ◌∙◌}
 use mathlib.Core.Bool.{cond}
 use mathlib.Core.List.{List, [], ◌∷◌, ◌++◌, append_assoc}
-use Prim.Native.Nat.{ℕ, ◌+◌, ◌*◌, ◌-◌, ◌≤◌, ◌<◌}
+use Prim.Native.Nat.{ℕ, min, ◌+◌, ◌-◌, ◌≤◌, ◌<◌}
 use native.Mathlib.Omega.{arith}
 use borrow.Author.Tests.{lt-ltb}
+use Rattle.std.proofs.lemmas.Bool.Decides.{nat_tests}
 use lib.ListN.{length, length-append}
 use lib.Seq.{sets, length-sets}
 use Rattle.kinds.specs.Kinds.{has?}
 use Rattle.words.specs.Lists.{values_from, lists_from}
 use Rattle.words.specs.Words.{with_u16, word_bytes, zeros}
 use Rattle.words.proofs.Stored.{sets_then, sets_word}
-use Rattle.book.specs.Book.{WellFormed, left_of}
-use Rattle.book.specs.Form.{book_of}
+use Rattle.book.specs.Book.{left_of}
+use Rattle.book.specs.Form.{DONE, form_of, book_of}
 use Rattle.book.specs.declared.Node.{Node}
 use Rattle.book.specs.declared.Node.TheVariants.{Fail, Empty, Token, Either, Then, Tagged, Ref}
 use Rattle.book.proofs.Decoded.{formed, well_formed}
@@ -26,7 +27,6 @@ use Rattle.plan.specs.Rows.{one_cell}
 use Rattle.writer.specs.Bytes.{plan_contents, book_body, row_of, rows_of, dues_of, plan_bytes}
 use Rattle.writer.specs.Table.{marks_of, with_due, due_by, due_bytes, far_cell, row_by, Writable, ClearFrom}
 use Rattle.plan.proofs.Children.{left_below}
-use Rattle.plan.proofs.Laws.{size_small}
 use Rattle.writer.proofs.PlanBytes.{contents_long, body_long, length_row, length_rows, size_is}
 use Rattle.writer.proofs.Row.{row_by_lem}
 use Rattle.plan.proofs.Rows.{row_within}
@@ -56,25 +56,34 @@ cell_due marks lengths count k n (Then l r) = refl
 cell_due marks lengths count k n (Tagged l t) = refl
 cell_due marks lengths count k n (Ref l) = refl
 
+-- the least of two numbers is the smaller
+min_is : (a b : ℕ) → min a b ≡ smaller a b
+min_is a b = grind (arith, nat_tests)
+
 -- a length held at 65,535 and written as a 16-bit number is what is due
 pub due_stored : (l lengths : List ℕ) {next : List ℕ} (at n count : ℕ) {value size : ℕ} → n < count → size ≡ length_at lengths n
-    → value ≡ smaller size 65535 → next ≡ with_u16 l at value → next ≡ sets l at (due_bytes lengths count n)
+    → value ≡ min size 65535 → next ≡ with_u16 l at value → next ≡ sets l at (due_bytes lengths count n)
 due_stored l lengths at n count {value} below length_is value-is is =
     is ∙ sets_word l at value ∙ ap (λ (v : ℕ). sets l at (word_bytes (v ∷ []))) due
   where
     due : value ≡ due_by lengths count n
-    due = rw (lt-ltb n count below) (value-is ∙ ap (λ (v : ℕ). smaller v 65535) length_is)
+    due = rw (lt-ltb n count below) (value-is ∙ min_is _ _ ∙ ap (λ (v : ℕ). smaller v 65535) length_is)
+
+-- the row that a node gets by a table of facts
+module _ (book : List ℕ) (form : (form_of book).number ≡ DONE) {n : ℕ} {node : Node} (below : n < (book_of book).count)
+    (node_is : node ≡ (book_of book).node n) where
+  pub left_small : left_of node < (book_of book).count
+  left_small = left_below below (rw (← node_is) at ((well_formed (formed book form)).proper n below))
+
+  pub row_is : (table : List ℕ) {left near far mark skip : ℕ} {facts left-facts : NodeFacts} → left ≡ left_of node → facts ≡ facts_at table n
+      → left-facts ≡ facts_at table left → near ≡ one_cell node → far ≡ far_cell node skip → skip ≡ cond (has? left-facts.nullable 0) 4 3
+      → mark ≡ cond (has? facts.nullable 0) 1 0
+      → row_by facts.first left-facts.first near far (book_of book).kinds mark ≡ row_of (marks_of table (book_of book).count) (book_of book) n
+  row_is table left_is facts_are left-facts-are near-is far-is skip_is mark_is =
+      rw (mark_is, far-is, skip_is, facts_are, left-facts-are, near-is, left_is, node_is)
+      (row_by_lem table (book_of book).count n below (book_of book) (rw node_is at left_small))
 
 module _ {book table plan : List ℕ} {count kinds : ℕ} (w : Writable book table plan count kinds) where
-  formed_book : WellFormed (book_of book)
-  formed_book = well_formed (formed book w.form)
-
-  pub few_kinds : kinds ≤ 64
-  few_kinds = rw w.kinds_is formed_book.few_kinds
-
-  pub small_size : plan_size count kinds < 65536
-  small_size = omega (arith, size_small count kinds (rw w.count_is formed_book.few_nodes) few_kinds)
-
   pub row_fits : {n at : ℕ} → n < count → at ≡ row_at count kinds n → at + (kinds + 1) ≤ length plan
   row_fits below is = omega (arith, w.plan_long, row_within count kinds below)
 
@@ -84,20 +93,6 @@ module _ {book table plan : List ℕ} {count kinds : ℕ} (w : Writable book tab
   pub rows_are : lists_from (row_of (marks_of table count) (book_of book)) count 0 ≡ rows_of (marks_of table count) (book_of book)
   unfolding rows_of
   rows_are = ap (λ (m : ℕ). lists_from (row_of (marks_of table count) (book_of book)) m 0) w.count_is
-
-  module _ {n : ℕ} {node : Node} (below : n < count) (node_is : node ≡ (book_of book).node n) where
-    pub left_small : left_of node < count
-    left_small =
-        rw w.count_is
-        (left_below (rw w.count_is at below) (rw (← node_is) at (formed_book.proper n (rw w.count_is at below))))
-
-    pub row_is : {left near far mark skip : ℕ} {facts left-facts : NodeFacts} → left ≡ left_of node → facts ≡ facts_at table n
-        → left-facts ≡ facts_at table left → near ≡ one_cell node → far ≡ far_cell node skip → skip ≡ cond (has? left-facts.nullable 0) 4 3
-        → mark ≡ cond (has? facts.nullable 0) 1 0
-        → row_by facts.first left-facts.first near far kinds mark ≡ row_of (marks_of table count) (book_of book) n
-    row_is left_is facts_are left-facts-are near-is far-is skip_is mark_is =
-        rw (mark_is, far-is, skip_is, facts_are, left-facts-are, near-is, left_is, node_is, w.kinds_is)
-        (row_by_lem table count n below (book_of book) (rw node_is at left_small))
 
   -- the dues of a table of lengths are those of marks with them, which have the rows of the marks without
   pub dues_are : (lengths : List ℕ)
@@ -114,9 +109,6 @@ module _ {book table plan : List ℕ} {count kinds : ℕ} (w : Writable book tab
       ++ (cond ((marks_of table count).null n) 1 0 ∷ []))
       (book_of book).count
       0
-
-  pub rows_within : rows_at count ≤ length plan
-  rows_within = omega (arith, w.plan_long)
 
   -- settings and nodes reach to where the rows begin
   body_to_rows : plan_settings_at + length (book_body (book_of book)) ≡ rows_at count
@@ -136,14 +128,6 @@ module _ {book table plan : List ℕ} {count kinds : ℕ} (w : Writable book tab
         second
         (sym body_to_rows),
   )
-
-  -- rows stored leave room for what is due
-  pub dues_ready : {two three : List ℕ} → Writable book table two count kinds
-      → three ≡ sets two (rows_at count) (rows_of (marks_of table count) (book_of book))
-      → (dues_at count kinds + 2 * count ≤ length three) × (dues_at count kinds + 2 * count < 65536)
-  dues_ready {two} {three} ready is =
-      let long : length three ≡ length two = ap length is ∙ length-sets two (rows_at count) (rows_of (marks_of table count) (book_of book)) in
-      (omega (arith, long, ready.plan_long), small_size)
 
   -- contents, settings and nodes, and rows and dues, stored one behind the other in a cleared buffer, are the plan and zeros behind it
   module _ (marks : Marks) where

@@ -4,12 +4,15 @@
 ghost use Rattle.std.specs.Prelude.{length};
 ghost use Rattle.written.specs.Written.{refused_with, Hands};
 
-use words::clear_bytes;
-
 // The answer's number, last of all tests.
 pub const OUT_ROOM: u32 = 21;
 
-// What a call that writes bytes answers.
+// The numbers of a call that writes a run: it has too many events, or there is no room for it.
+pub const RUN_LONG: u32 = 24;
+
+pub const RUN_ROOM: u32 = 25;
+
+// What a call that writes bytes answers, as the C interface has it: refusals are numbers.
 #[repr(C)]
 #[derive(Clone, Copy)]
 pub struct Written {
@@ -22,7 +25,7 @@ pub struct Written {
 pub fn refuse(number: u32, place: u64, out: &mut [u8]) -> Written
     ensures { Hands (refused_with number place (length out.old)) result out.new }
 {
-    clear_bytes(out);
+    out.fill(0);
     Written {
         number,
         size: 0,

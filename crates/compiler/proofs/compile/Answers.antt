@@ -1,12 +1,16 @@
--- `compiler::compile` meets its contract: small tables are blank and fresh, and long enough for a small book.
-use Rattle.verdict.proofs.Books.{small_blank}
-use Rattle.compiler.proofs.Answers.{small_fresh}
+-- `compiler::compile` meets its contract: small tables are enough for a small book, and large ones for every book.
+use native.Mathlib.Omega.{arith}
+use Rattle.compiler.proofs.Answers.{few_claimed, few_any}
 use Rattle.compiler.proofs.compile.Goals as goal
 
-pub compile_by-requires : goal.compile_by-requires
-compile_by-requires c =
-    let claimed = c.count_claimed.ensures in
-    record {
-      blank = λ good. small_blank _ claimed c.if-count_claimed-le-SMALL_BOOK.true good;
-      fresh = λ good. small_fresh _ claimed c.if-count_claimed-le-SMALL_BOOK.true good;
-    }
+pub compile_with-requires : goal.compile_with-requires
+compile_with-requires c = record {
+  large = λ good. few_claimed _ c.count_claimed.ensures c.if-count_claimed-le-SMALL_TABLE.true good;
+  few = omega arith;
+}
+
+pub compile_with-requires-else-count_claimed-le-SMALL_TABLE : goal.compile_with-requires-else-count_claimed-le-SMALL_TABLE
+compile_with-requires-else-count_claimed-le-SMALL_TABLE c = record {
+  large = λ good. few_any _ good;
+  few = omega arith;
+}

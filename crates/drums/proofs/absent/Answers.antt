@@ -1,9 +1,10 @@
 -- `drums::absent` meets its contract, by the plan's form.
-use Rattle.drums.proofs.Calls.{absent_form, absent_none}
+use mathlib.Core.Path.{refl, sym}
+use Rattle.drums.proofs.Calls.{not_done, absent_form, absent_none}
 use Rattle.drums.proofs.absent.Goals as goal
 
-pub returns-then-judged-ne-DONE : goal.returns-then-judged-ne-DONE
-returns-then-judged-ne-DONE c = absent_form _ c.judge-judged.ensures c.if-judged-ne-DONE.true c.answer.ensures
+pub returns-in-Ok : goal.returns-in-Ok
+returns-in-Ok c = absent_none _ (sym c.in-Ok.ensures.1) refl c.from.ensures
 
-pub returns : goal.returns
-returns c = absent_none _ c.judge-judged.ensures c.if-judged-ne-DONE.false c.answer-2.ensures
+pub returns-in-Err : goal.returns-in-Err
+returns-in-Err c = absent_form _ (sym c.in-Err.ensures) (not_done c.in-Err.error) c.from-in-Err.ensures

@@ -1,18 +1,19 @@
-use mathlib.Core.Path.{sym}
-use borrow.Author.Tests.{eq-eqb, ne_eqb}
-use Rattle.words.proofs.FirstBad.{searched_none, searched_more, searched_within, searched_every}
+-- `drums::all_zero` meets its contract: each slot is tested.
+use mathlib.Core.Bool.{Bool, true, false}
+use mathlib.Core.Path.{◌≡◌, refl}
+use Prim.Native.Nat.{ℕ}
+use borrow.Author.Rules.{rules}
+use borrow.Author.Tests.{tests}
+use lib.Dec.{eqb}
+use Rattle.std.proofs.lemmas.Iterator.{cases_from_all, YieldsList-from_slice}
+use Rattle.drums.proofs.Tests.{every_by}
 use Rattle.drums.proofs.all_zero.Goals as goal
 
-pub loop-at-init : goal.loop-at-init
-loop-at-init c = searched_none _ _
-
-pub returns-then-slots-at-ne0 : goal.returns-then-slots-at-ne0
-returns-then-slots-at-ne0 c =
-    sym (searched_within _ c.loop-at.invariant c.loop-at-test.true (ne_eqb _ _ c.if-slots-at-ne0.true))
-
-pub loop-at-preserved : goal.loop-at-preserved
-loop-at-preserved c =
-    searched_more _ c.loop-at.invariant c.loop-at-test.true (eq-eqb _ _ c.if-slots-at-ne0.false)
+abbrev Tested : Bool → ℕ → Type 0
+Tested test slot = eqb slot 0 ≡ test
 
 pub returns : goal.returns
-returns c = sym (searched_every _ c.loop-at.invariant c.loop-at-test.false)
+returns c =
+    every_by _ c.args.slots.now c.all.result (Tested true) (Tested false) refl (λ i below is. is) (λ i below is. is)
+    (cases_from_all _ _ _ (Tested true) (Tested false) c.all.ensures.ran (YieldsList-from_slice _ c.iter.ensures.rest)
+    (λ x q k. search (rules, tests)) (λ x q k. search (rules, tests)))

@@ -1,13 +1,11 @@
 -- `drums::go_on` meets its contract: the slots after the parts held are zero.
-use Rattle.drums.proofs.Parts.{cleared_is, after_hold, goes_on_is}
+use borrow.Author.Rules.{rules}
+use Rattle.drums.proofs.Parts.{filled_is, after_hold, goes_on_is}
 use Rattle.drums.proofs.go_on.Goals as goal
+use Rattle.drums.proofs.go_on.Goals.{After-fill}
 
 pub due_sum-due-requires : goal.due_sum-due-requires
-due_sum-due-requires c =
-    let pre = c.requires in
-    (pre.0, after_hold pre.1 (cleared_is pre.1 c.clear_after.ensures))
+due_sum-due-requires c = after_hold c.requires.0 (filled_is c.requires.0 (search rules))
 
 pub returns : goal.returns
-returns c =
-    let pre = c.requires in
-    goes_on_is pre.1 _ _ _ _ (cleared_is pre.1 c.clear_after.ensures) c.due_sum-due.ensures c.answer.ensures
+returns c = goes_on_is c.requires.0 _ _ _ _ (filled_is c.requires.0 (search rules)) c.due_sum-due.ensures c.answer.ensures

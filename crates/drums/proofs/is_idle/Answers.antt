@@ -7,5 +7,4 @@ pub returns-then-not-d : goal.returns-then-not-d
 returns-then-not-d c = idle_not _ c.if-not-d.true
 
 pub returns : goal.returns
-returns c =
-    idle_by _ c.if-not-d.false (search rules) c.all_zero.ensures
+returns c = idle_by _ c.if-not-d.false (search rules) c.all_zero.ensures

@@ -1,49 +1,33 @@
-use Prim.Native.Nat.{◌<◌}
-use mathlib.Core.Path.{sym}
-use native.Mathlib.Omega.{arith}
-use borrow.Author.Tests.{lt-ltb, le-ltb}
-use lib.ListN.{length}
-use Rattle.words.proofs.FirstBad.{searched_none, searched_more, searched_within, searched_every}
-use Rattle.words.proofs.Tests.{never}
+-- `drums::nodes_held` meets its contract: the node of each slot is tested.
+use mathlib.Core.Bool.{Bool, true, false}
+use mathlib.Core.Path.{◌≡◌, sym, ◌∙◌}
+use Prim.Native.Nat.{ℕ}
+use borrow.Author.Rules.{rules}
+use borrow.Author.Tests.{tests}
+use lib.Dec.{ltb}
+use lib.ListN.{take}
+use lib.Seq.{length-take-le, get_or-take}
+use Rattle.std.proofs.lemmas.Iterator.{cases_from_all, YieldsList-from_slice}
+use Rattle.reader.specs.Machine.{node_in}
 use Rattle.drums.specs.Drums.{nodes_held}
-use Rattle.drums.proofs.Tests.{nodes_hold}
+use Rattle.drums.proofs.Tests.{every_by, nodes_hold}
 use Rattle.drums.proofs.nodes_held.Goals as goal
-use Rattle.drums.proofs.nodes_held.Goals.{In-loop-at}
+use Rattle.drums.proofs.nodes_held.Goals.{After-all}
 
--- a turn, and its slot
-abbrev Turn : Type 0
-Turn = In-loop-at
+abbrev Tested : ℕ → Bool → ℕ → Type 0
+Tested nodes test slot = ltb (node_in slot) nodes ≡ test
 
-inside : (t : Turn) → t.loop-at.at < length t.args.slots.now
-inside t = omega (arith, t.loop-at-test.true, t.requires)
-
-pub loop-at-init : goal.loop-at-init
-loop-at-init c = (searched_none _ _, λ i under. absurd (omega arith))
-
-pub offset_bounds-slots-at : goal.offset_bounds-slots-at
-offset_bounds-slots-at c = omega (arith, inside (goal.at.offset_bounds-slots-at c).In-loop-at, c.well_formed)
-
-pub bounds-slots-at : goal.bounds-slots-at
-bounds-slots-at c = inside (goal.at.bounds-slots-at c).In-loop-at
-
-pub overflow_cast-slots : goal.overflow_cast-slots
-overflow_cast-slots c = omega (arith, c.type_inv.slots c.loop-at.at)
-
-pub returns-then-nodes-slots : goal.returns-then-nodes-slots
+all-held : (c : After-all) → c.all.result ≡ nodes_held c.args.nodes c.args.slots.now c.args.held
 unfolding nodes_held
-returns-then-nodes-slots c = (
-  sym (searched_within _ c.loop-at.invariant.0 c.loop-at-test.true (le-ltb _ _ c.if-nodes-slots.true)),
-  λ e. never e,
-)
-
-pub loop-at-preserved : goal.loop-at-preserved
-loop-at-preserved c = (
-  searched_more _ c.loop-at.invariant.0 c.loop-at-test.true (lt-ltb _ _ c.if-nodes-slots.false),
-  λ i under. (c.type_inv.slots i).fits,
-)
+all-held c =
+    let a = c.args in
+    every_by _ (take a.held a.slots.now) c.all.result (Tested a.nodes true) (Tested a.nodes false)
+    (sym (length-take-le a.held a.slots.now c.requires)) (λ i below is. rw (get_or-take a.held a.slots.now i 0 below) at is)
+    (λ i below is. rw (get_or-take a.held a.slots.now i 0 below) at is)
+    (cases_from_all _ _ _ (Tested a.nodes true) (Tested a.nodes false) c.all.ensures.ran (YieldsList-from_slice _ c.iter.ensures.rest)
+    (λ x q k. search (rules, tests)) (λ x q k. search (rules, tests)))
 
 pub returns : goal.returns
-unfolding nodes_held
 returns c =
-    let all = searched_every _ c.loop-at.invariant.0 c.loop-at-test.false in
-    (sym all, λ e. nodes_hold _ c.requires (λ i under. c.loop-at.invariant.1 i (omega (arith, c.loop-at-test.false))) all)
+    let held = all-held (goal.at.returns c).After-all in
+    (held, λ all. nodes_hold _ c.requires (λ i under. (c.type_inv.slots i).fits) (sym held ∙ all))

@@ -5,14 +5,11 @@ use Rattle.drums.proofs.Steps.{refusal-told, refusal_silent}
 use Rattle.drums.proofs.refuse_event.Goals as goal
 
 pub refuse-requires : goal.refuse-requires
-refuse-requires c =
-    let pre = c.requires in
-    (pre.0, whole_parts pre.1, small_place pre.1)
+refuse-requires c = (whole_parts c.requires, small_place c.requires)
 
 pub returns-then-tells_kinds : goal.returns-then-tells_kinds
 returns-then-tells_kinds c =
     c.refuse.ensures ∙ refusal-told _ _ _ _ (sym c.tells_kinds.ensures ∙ c.if-tells_kinds.true)
 
 pub returns : goal.returns
-returns c =
-    c.answer.ensures ∙ refusal_silent _ _ _ _ (sym c.tells_kinds.ensures ∙ c.if-tells_kinds.false)
+returns c = rw c.from.ensures at c.answer.ensures ∙ refusal_silent _ _ _ _ (sym c.tells_kinds.ensures ∙ c.if-tells_kinds.false)

@@ -1,69 +1,63 @@
 -- `drums::step` meets its contract: the reader's event on a copy of the slots.
-use mathlib.Core.Path.{◌≡◌, ap, ◌∙◌}
+use mathlib.Core.Path.{refl, ap, ◌∙◌}
+use mathlib.Core.Bool.{false}
 use Prim.Native.Nat.{◌+◌, ◌*◌, ◌-◌}
 use native.Mathlib.Numerals.{add-one}
 use native.Mathlib.Omega.{arith}
-use Rattle.book.specs.Form.{DONE}
-use Rattle.plan.specs.Form.{plan_from}
-use Rattle.plan.proofs.Runnable.{few_nodes}
+use Rattle.std.specs.declared.result.Result.TheVariants.{Ok, Err}
+use Rattle.plan.specs.Form.{plan_count, plan_from, plan_of}
+use Rattle.plan.proofs.Runnable.{own, few_nodes}
 use Rattle.reader.specs.declared.Reading.{Reading}
 use Rattle.reader.specs.Machine.{After, after}
+use Rattle.reader.specs.Results.{spot_of}
+use Rattle.reader.proofs.Bars.{not_done}
 use Rattle.reader.proofs.Bounds.{Safe}
 use Rattle.reader.proofs.Simulation.{bounded}
 use Rattle.drums.specs.Drums.{drum_slots, stepped, idle_drum}
 use Rattle.drums.proofs.Parts.{sound_ready}
 use Rattle.drums.proofs.Steps.{step_long, step-taken, step-refused, step_safe}
 use Rattle.drums.proofs.step.Goals as goal
-use Rattle.drums.proofs.step.Goals.{After-take_event-spot}
-
--- the event met, past the test of its number, and the function's entry
-abbrev Met : Type 0
-Met = After-take_event-spot
-
--- how the machine stands then
-abbrev out : Met → After
-out v =
-    let e = v.take_event-spot in
-    after e.result e.new.held e.new.tree
+use Rattle.drums.proofs.step.Goals.{In-Ok, In-Err}
 
 pub returns-then-d-eq-MOST_EVENTS : goal.returns-then-d-eq-MOST_EVENTS
 returns-then-d-eq-MOST_EVENTS c =
     (c.stop.ensures ∙ ap (λ (r : Reading). stepped r idle_drum) c.answer.ensures) ∙ step_long _ _ _ c.if-d-eq-MOST_EVENTS.true
 
-pub take_event-spot-requires : goal.take_event-spot-requires
-take_event-spot-requires c =
-    let pre = c.requires in
-    sound_ready pre.1 pre.0
+pub take_event-requires : goal.take_event-requires
+take_event-requires c = sound_ready c.requires.1 refl
 
-pub returns-then-spot-ne-DONE : goal.returns-then-spot-ne-DONE
+-- the event is taken, and how the machine stands then
+abbrev out : In-Ok → After
+out v = after (spot_of false (Ok v.in-Ok.taken)) v.take_event.new.held v.take_event.new.tree
+
+safe : (v : In-Ok)
+    → let d = v.args.d.now in
+    let nodes = plan_count v.args.plan.now in
+    Safe nodes drum_slots (d.records + (d.held + 2 * nodes - 1)) (out v)
 unfolding plan_from
-returns-then-spot-ne-DONE c =
-    let pre = c.requires in
-    (c.stop-then-spot-ne-DONE.ensures ∙ ap (λ (r : Reading). stepped r idle_drum) c.refuse_event.ensures)
-    ∙ step-refused _ _ (bounded pre.0) pre.1 _ _ (λ e. omega (arith, e)) (out (goal.at.returns-then-spot-ne-DONE c).After-take_event-spot) c.take_event-spot.ensures c.if-spot-ne-DONE.true
-
--- or taken
-safe : (v : Met) → v.take_event-spot.result.number ≡ DONE
-    → let a = v.args in
-    Safe a.nodes drum_slots (a.d.records + (a.d.held + 2 * a.nodes - 1)) (out v)
-unfolding plan_from
-safe v done =
-    let pre = v.requires in
-    step_safe (plan_from v.args.plan.now v.args.nodes v.args.kinds) _ (bounded pre.0) pre.1 _ _
-    (λ e. omega (arith, e)) (out v) v.take_event-spot.ensures done
-
-pub overflow_cast-spot : goal.overflow_cast-spot
-overflow_cast-spot c =
-    let pre = c.requires in
-    omega (arith, (safe (goal.at.overflow_cast-spot c).After-take_event-spot c.if-spot-ne-DONE.false).records, pre.1.few_records, pre.1.parts.few, few_nodes pre.0)
+safe v =
+    step_safe (plan_of v.args.plan.now) _ (bounded (own _ v.requires.0)) v.requires.1 _ _ v.if-d-eq-MOST_EVENTS.false (out v)
+    v.in-Ok.ensures refl
 
 pub go_on-requires : goal.go_on-requires
 go_on-requires c =
-    (c.requires.0, (safe (goal.at.go_on-requires c).After-take_event-spot c.if-spot-ne-DONE.false).parts)
+    let it = safe (goal.at.go_on-requires c).In-Ok in (
+      it.parts,
+      omega (arith, it.records, c.requires.1.few_records, c.requires.1.parts.few, few_nodes (own _ c.requires.0)),
+    )
 
 pub returns : goal.returns
 unfolding plan_from
 returns c =
-    let pre = c.requires in
-    rw (add-one c.args.d.events) at c.go_on.ensures
-    ∙ step-taken _ _ (bounded pre.0) pre.1 _ _ (λ e. omega (arith, e)) (out (goal.at.returns c).After-take_event-spot) c.take_event-spot.ensures c.if-spot-ne-DONE.false
+    rw (add-one c.args.d.now.events) at c.go_on.ensures
+    ∙ step-taken _ _ (bounded (own _ c.requires.0)) c.requires.1 _ _ c.if-d-eq-MOST_EVENTS.false (out (goal.at.returns c).In-Ok)
+    c.in-Ok.ensures refl
+
+-- or refused
+pub returns-in-Err : goal.returns-in-Err
+unfolding plan_from
+returns-in-Err c =
+    (c.stop-in-Err.ensures ∙ ap (λ (r : Reading). stepped r idle_drum) c.refuse_event.ensures)
+    ∙ step-refused _ _ (bounded (own _ c.requires.0)) c.requires.1 _ _ c.if-d-eq-MOST_EVENTS.false
+    (after (spot_of false (Err c.in-Err.refused)) c.take_event.new.held c.take_event.new.tree) c.in-Err.ensures
+    (not_done c.in-Err.refused.refusal)

@@ -1,36 +1,6 @@
-use native.Mathlib.Omega.{arith}
-use Rattle.book.proofs.Decoded.{nodes_beyond}
-use Rattle.rules.proofs.Growing.{settling_none, settling_more}
-use Rattle.lengths.proofs.Lowering.{fresh_sound, changed_less, turned_lengths}
+-- `lengths::least_lengths` meets its contract: the least measures are the lengths.
+use Rattle.lengths.proofs.Lengths.{least_cut}
 use Rattle.lengths.proofs.least_lengths.Goals as goal
 
-pub loop-downward-init : goal.loop-downward-init
-loop-downward-init c = settling_none (fresh_sound c.requires.fresh)
-
-pub visit_all-requires : goal.visit_all-requires
-visit_all-requires c =
-    let settling = c.loop-downward.invariant in
-    let pre = c.requires in
-    record {
-      good_nodes = pre.good_nodes;
-      count_in_bounds = omega (arith, pre.fresh.long, settling.long);
-      sound = settling.sound;
-    }
-
-pub loop-downward-smaller : goal.loop-downward-smaller
-loop-downward-smaller c = changed_less c.visit_all.ensures.grown c.loop-downward-test.true
-
-pub loop-downward-preserved : goal.loop-downward-preserved
-loop-downward-preserved c =
-    settling_more c.loop-downward.invariant c.visit_all.ensures.grown
-
-pub shape_of-lengths : goal.shape_of-lengths
-shape_of-lengths c =
-    (settling_more c.loop-downward.invariant c.visit_all.ensures.grown).long
-
 pub returns : goal.returns
-returns c =
-    let pre = c.requires in
-    record {
-      least_is = λ n below. turned_lengths (nodes_beyond _ _ _) pre.fresh c.loop-downward.invariant c.visit_all.ensures c.loop-downward-test.false n;
-    }
+returns c = record { least_is = λ n below. least_cut c.least.ensures n }

@@ -4,4 +4,4 @@ use Rattle.marks.proofs.Laws.{rest_line}
 use Rattle.marks.proofs.line_at.Goals as goal
 
 pub returns : goal.returns
-returns c = c.to_feed.ensures ∙ rest_line _ _ c.position_of-start.ensures.0
+returns c = c.to_feed.ensures ∙ rest_line _ _ c.of-start.ensures.0

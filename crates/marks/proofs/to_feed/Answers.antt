@@ -1,23 +1,21 @@
-use native.Mathlib.Omega.{arith}
-use Prim.Native.Nat.{◌-◌}
-use lib.Seq.{length-take-le}
-use mathlib.Core.Path.{sym}
-use borrow.Author.Tests.{eq-eqb, ne_eqb}
-use Rattle.marks.proofs.Laws.{unbroken_none, unbroken_more, unbroken_feed, unbroken_all}
+-- `marks::to_feed` meets its contract: the bytes before the first line feed, or all.
+use Rattle.std.proofs.Common.{rules}
+use borrow.Author.Tests.{tests}
+use Rattle.std.proofs.lemmas.Iterator.{YieldsList-from_slice}
+use Rattle.std.proofs.lemmas.Iterator.Search.{position_from_yields_List}
+use Rattle.marks.proofs.Laws.{feed, feed_found, feed_missed}
 use Rattle.marks.proofs.to_feed.Goals as goal
 
-pub loop-at-init : goal.loop-at-init
-loop-at-init c = unbroken_none _
+pub returns-in-Some : goal.returns-in-Some
+returns-in-Some c =
+    feed_found c.args.rest.now
+    (position_from_yields_List feed _ _ _ c.position.ensures.ran (YieldsList-from_slice c.args.rest.now cc)
+    (λ x b q k. search (rules, tests)))
+    c.in-Some.is
 
-pub slice_bounds-result-end : goal.slice_bounds-result-end
-slice_bounds-result-end c = sym (length-take-le _ _ (omega (arith, c.loop-at.invariant.within)))
-
-pub returns-then-rest-at-eq10 : goal.returns-then-rest-at-eq10
-returns-then-rest-at-eq10 c =
-    unbroken_feed c.loop-at-test.true (eq-eqb _ _ c.if-rest-at-eq10.true) c.loop-at.invariant
-
-pub loop-at-preserved : goal.loop-at-preserved
-loop-at-preserved c = unbroken_more c.loop-at-test.true (ne_eqb _ _ c.if-rest-at-eq10.false) c.loop-at.invariant
-
-pub returns : goal.returns
-returns c = unbroken_all c.loop-at-test.false c.loop-at.invariant
+pub returns-in-None : goal.returns-in-None
+returns-in-None c =
+    feed_missed c.args.rest.now
+    (position_from_yields_List feed _ _ _ c.position.ensures.ran (YieldsList-from_slice c.args.rest.now cc)
+    (λ x b q k. search (rules, tests)))
+    c.in-None.is

@@ -1,27 +1,20 @@
-use native.Mathlib.Omega.{arith}
-use mathlib.Core.Path.{sym}
-use Rattle.words.proofs.FirstBad.{searched_none, searched_more, searched_within, searched_every}
-use Rattle.names.proofs.Places.{too_low, too_high, is_visible}
+-- `names::all_visible` meets its contract: every byte of the part passes.
+use mathlib.Core.Path.{◌≡◌, ◌∙◌}
+use mathlib.Core.Bool.{true, false}
+use borrow.Author.Tests.{tests}
+use Rattle.std.proofs.lemmas.Iterator.{cases_from_all, YieldsList-from_slice}
+use Rattle.words.proofs.FirstBad.{every_told}
+use Rattle.words.proofs.Same.{part_between, every_in_part}
+use Rattle.names.specs.Names.{visible}
+use borrow.Author.Rules.{rules}
+use Prim.Native.Nat.{◌+◌, ◌-◌}
+use lib.ListN.{take, drop}
 use Rattle.names.proofs.all_visible.Goals as goal
 
-pub loop-i-init : goal.loop-i-init
-loop-i-init c = searched_none _ _
-
-pub returns-then-byte-lt33 : goal.returns-then-byte-lt33
-returns-then-byte-lt33 c =
-    sym
-    (searched_within _ c.loop-i.invariant c.loop-i-test.true
-    (too_low c.wide-byte.ensures.0 (omega arith)))
-
-pub returns-then-byte-gt126 : goal.returns-then-byte-gt126
-returns-then-byte-gt126 c =
-    sym
-    (searched_within _ c.loop-i.invariant c.loop-i-test.true
-    (too_high c.wide-byte.ensures.0 (omega arith)))
-
-pub loop-i-preserved : goal.loop-i-preserved
-loop-i-preserved c = searched_more _ c.loop-i.invariant c.loop-i-test.true
-    (is_visible c.wide-byte.ensures.0 (omega arith) (omega arith))
-
 pub returns : goal.returns
-returns c = sym (searched_every _ c.loop-i.invariant c.loop-i-test.false)
+returns c =
+    every_told visible _
+    (cases_from_all _ _ _ (λ x. visible x ≡ true) (λ x. visible x ≡ false) c.all.ensures.ran (YieldsList-from_slice (take (c.args.from + c.args.size - c.args.from) (drop c.args.from c.args.bytes.now)) cc)
+    (λ x q k. search (rules, tests)) (λ x q k. search (rules, tests)))
+    ∙ rw (part_between c.args.bytes.now c.args.from c.args.size)
+    (every_in_part visible c.args.bytes.now c.args.from c.args.size c.requires)

@@ -3,16 +3,12 @@ use mathlib.Core.Path.{sym, ◌∙◌}
 use Rattle.names.proofs.Places.{whole, bad_name, good_if_new}
 use Rattle.names.proofs.name_good.Goals as goal
 
-pub returns-then-not-name_whole : goal.returns-then-not-name_whole
-returns-then-not-name_whole c =
-    sym (bad_name _ _ _ c.requires.0 (sym c.name_whole.ensures ∙ c.if-not-name_whole.true))
-
 pub name_new-requires : goal.name_new-requires
-name_new-requires c =
-    (c.requires.0, (whole _ _ (sym c.name_whole.ensures ∙ c.if-not-name_whole.false)).within)
+name_new-requires c = (c.requires.0, (whole _ _ (sym c.name_whole.ensures ∙ c.if-name_whole.true)).within)
 
-pub returns : goal.returns
-returns c =
-    c.name_new.ensures
-    ∙ good_if_new _ _ _ c.requires.0
-    (sym c.name_whole.ensures ∙ c.if-not-name_whole.false)
+pub returns-then-name_whole : goal.returns-then-name_whole
+returns-then-name_whole c = c.name_new.ensures ∙ good_if_new _ _ _ c.requires.0 (sym c.name_whole.ensures ∙ c.if-name_whole.true)
+
+pub returns-else-name_whole : goal.returns-else-name_whole
+returns-else-name_whole c =
+    c.if-name_whole.false ∙ sym (bad_name _ _ _ c.requires.0 (sym c.name_whole.ensures ∙ c.if-name_whole.false))

@@ -1,6 +1,5 @@
 -- `outline::read_sheet` meets its contract. The loop's invariant: the rules so far are read, with their nodes and rows put down.
 -- The measure is what is left of the text.
-use borrow.Author.Rules.{rules}
 use Prim.Native.Nat.{◌-◌}
 use lib.ListN.{length}
 use Rattle.outline.proofs.Sheets.{Outlining}

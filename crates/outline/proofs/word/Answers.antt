@@ -5,11 +5,10 @@ use Rattle.outline.proofs.word.Goals as goal
 
 pub returns-then-end-at : goal.returns-then-end-at
 returns-then-end-at c =
-    rw c.wrong.ensures
-    (word_none c.requires.0 c.requires.1 c.requires.2 (rw c.if-end-at.true at c.letters_end-end.ensures.past))
+    word_none c.requires.0 c.requires.1 c.requires.2 (rw c.if-end-at.true at c.letters_end-end.ensures.past)
 
 pub returns-then-end-at-gt-LETTERS : goal.returns-then-end-at-gt-LETTERS
-returns-then-end-at-gt-LETTERS c = rw c.wrong-then-end-at-gt-LETTERS.ensures (word_long c.letters_end-end.ensures (omega arith))
+returns-then-end-at-gt-LETTERS c = word_long c.letters_end-end.ensures (omega arith)
 
 pub returns : goal.returns
 returns c =
@@ -17,5 +16,5 @@ returns c =
     c.letters_end-end.ensures
     (omega (arith, c.letters_end-end.ensures.low))
     (omega arith)
-    c.word_type.ensures
-    c.put_node-next.ensures
+    c.word_node-node.ensures
+    c.put_node.ensures

@@ -1,7 +1,13 @@
 -- `plan::plan_good` meets its contract: the length is tested first, then the rest at once.
 use mathlib.Core.Path.{◌≡◌, sym, ◌∙◌}
-use mathlib.Core.Bool.{true}
+use mathlib.Core.Bool.{Bool, true, not}
 use native.Mathlib.Omega.{arith}
+use Prim.Native.Nat.{ℕ, ◌<◌}
+use lib.Dec.{leb}
+use Rattle.std.specs.Prelude.{Option, Some, None, MatchOption}
+use Rattle.std.specs.Option.{is_some}
+use borrow.Author.Tests.{not-true, not-false}
+use Rattle.std.proofs.lemmas.Bool.{le-leb, lt-leb}
 use lib.ListN.{length}
 use Rattle.plan.specs.Form.{size_good, plan_good}
 use Rattle.plan.proofs.Laws.{Sized, sized}
@@ -28,7 +34,18 @@ settings_good-requires c = omega (arith, size_is (goal.at.settings_good-requires
 pub first_bad-requires : goal.first_bad-requires
 first_bad-requires c = omega (arith, size_is (goal.at.first_bad-requires c).Else-not-size_good)
 
+-- that there is no bad node is that the first one is no lower than the count
+none_bad : (found : Option ℕ) (count first : ℕ) (none : Bool) → MatchOption found (first ≡ count) (λ n. (n < count) × (n ≡ first))
+    → is_some found ≡ not none → leb count first ≡ none
+none_bad None count first none is some = le-leb count first (omega (arith, is)) ∙ sym (not-false none (sym some))
+none_bad (Some n) count first none is some = lt-leb count first (omega (arith, is.0, is.1)) ∙ sym (not-true none (sym some))
+
 pub returns : goal.returns
 unfolding plan_good
 returns c =
-    rw (size-test (goal.at.returns c).Else-not-size_good, ← c.plan_contents_good.ensures, ← c.settings_good.ensures, ← c.first_bad.ensures)
+    rw (
+      size-test (goal.at.returns c).Else-not-size_good,
+      ← c.plan_contents_good.ensures,
+      ← c.settings_good.ensures,
+      none_bad _ _ _ _ c.first_bad.ensures c.is_none.ensures,
+    )

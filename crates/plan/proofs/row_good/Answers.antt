@@ -1,32 +1,24 @@
-use mathlib.Core.Path.{refl}
-use mathlib.Core.Bool.{Bool}
-use Prim.Native.Nat.{ℕ}
+use mathlib.Core.Path.{◌≡◌, refl}
 use native.Mathlib.Omega.{arith}
-use Rattle.plan.specs.Rows.{column_good, bad_column}
-use Rattle.plan.proofs.Columns.{kind_column, last_column, at_last}
-use Rattle.plan.proofs.TestsJoined.{Joined, joined_none, joined_more, joined-all}
+use Rattle.plan.specs.Rows.{bad_column}
+use Rattle.plan.proofs.Columns.{cells_long, cell_is, kind_column, last_column}
+use Rattle.plan.proofs.TestsJoined.{joined_none, joined_more, joined-all}
 use Rattle.plan.proofs.row_good.Goals as goal
-use Rattle.plan.proofs.row_good.Goals.{After-loop-column}
 
-pub loop-column-init : goal.loop-column-init
-loop-column-init c = (joined_none _, omega arith)
+pub loop-cell-init : goal.loop-cell-init
+loop-cell-init c = joined_none _
 
-pub loop-column-preserved : goal.loop-column-preserved
-loop-column-preserved c =
-    (joined_more _ _ _ c.loop-column.invariant.0 (kind_column _ _ _ _ _ c.loop-column-test.true refl refl), omega arith)
+pub loop-cell-preserved : goal.loop-cell-preserved
+loop-cell-preserved c =
+    let a = c.args in
+    let below = rw (cells_long a.plan.now a.at a.kinds c.requires) at c.loop-cell-test.true in
+    joined_more _ _ _ c.loop-cell.invariant (kind_column _ _ _ _ _ below (cell_is _ _ _ c.requires below) refl)
 
--- the test of the row's columns
-abbrev columns : After-loop-column → ℕ → Bool
-columns c =
-    let args = c.args in
-    column_good args.plan.now args.at args.kinds args.one args.other
-
--- past the kinds the tests of all kinds are joined
-kinds-joined : (c : After-loop-column) → Joined (columns c) c.args.kinds c.loop-column.all
-kinds-joined c =
-    let inv = c.loop-column.invariant in
-    at_last (λ j. Joined (columns c) j c.loop-column.all) inv.0 inv.1 c.loop-column-test.false
-
+-- past the kinds the tests of all kinds are joined, and the last cell's with them
 pub returns : goal.returns
 unfolding bad_column
-returns c = joined-all _ _ _ (joined_more _ _ _ (kinds-joined (goal.at.returns c).After-loop-column) (last_column _ _ _ _ _ refl refl))
+returns c =
+    let a = c.args in
+    let long = cells_long a.plan.now a.at a.kinds c.requires in
+    let passed : c.loop-cell.cell-index ≡ a.kinds = omega (arith, long, c.loop-cell.auto.cell-index-end, c.loop-cell-test.false) in
+    joined-all _ _ _ (joined_more _ _ _ (rw passed at c.loop-cell.invariant) (last_column _ _ _ _ _ refl refl))

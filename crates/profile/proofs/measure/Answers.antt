@@ -1,39 +1,51 @@
--- `profile::measure` meets its contract: the start's number among the weights says which row of the table of answers it is.
+use mathlib.Core.Path.{refl}
 use native.Mathlib.Omega.{arith}
-use Rattle.verdict.proofs.Books.{start_below, count_small}
-use Rattle.profile.proofs.Rows.{weighable, start_unbounded, start_measured}
+use Rattle.rules.proofs.Growing.{settling_none, settling_more}
+use Rattle.verdict.proofs.Books.{count_small}
+use Rattle.profile.proofs.Raising.{blank-tells, weights_less}
+use Rattle.profile.proofs.Weighing.{turned_weighed}
+use Rattle.profile.proofs.Rows.{held_is, start_unbounded, start_measured}
 use Rattle.profile.proofs.measure.Goals as goal
 
-pub count_in-count-requires : goal.count_in-count-requires
-count_in-count-requires c = c.requires.known.good.form
+pub loop-init : goal.loop-init
+loop-init c = settling_none (blank-tells c.requires.blank)
 
-pub weigh-requires : goal.weigh-requires
-weigh-requires c =
+pub raise_all-requires : goal.raise_all-requires
+raise_all-requires c =
     let pre = c.requires in
-    let (known, blank) = weighable c.count_in-count.ensures pre.known pre.blank in
-    record { known = known; blank = blank }
+    let settling = c.loop.invariant in
+    record {
+      count_in_bounds = omega (arith, count_small c.book-book.ensures.at_hand.known.good, pre.blank.long, settling.long);
+      sound = settling.sound;
+    }
 
-pub start_in-requires : goal.start_in-requires
-start_in-requires c = c.requires.known.good.form
+pub loop-smaller : goal.loop-smaller
+loop-smaller c =
+    weights_less c.loop.invariant c.raise_all.ensures.grown c.loop-test.true (λ i. (c.type_inv.weights i).fits)
 
-pub offset_bounds-weights-start_in : goal.offset_bounds-weights-start_in
-offset_bounds-weights-start_in c =
-    let good = c.requires.known.good in
-    omega (arith, start_below good c.start_in.ensures, count_small good)
+pub loop-preserved : goal.loop-preserved
+loop-preserved c = settling_more c.loop.invariant c.raise_all.ensures.grown
 
-pub bounds-weights-start_in : goal.bounds-weights-start_in
-bounds-weights-start_in c =
+pub offset_bounds-weights-start : goal.offset_bounds-weights-start
+offset_bounds-weights-start c =
+    let below = rw c.book-book.ensures.book at c.start.ensures.below in
+    omega (arith, below, count_small c.book-book.ensures.at_hand.known.good)
+
+pub bounds-weights-start : goal.bounds-weights-start
+bounds-weights-start c =
     let pre = c.requires in
-    let good = pre.known.good in
-    omega (arith, start_below good c.start_in.ensures, count_small good, c.weigh.auto.weights, pre.blank.long)
+    let below = rw c.book-book.ensures.book at c.start.ensures.below in
+    omega (arith, below, count_small c.book-book.ensures.at_hand.known.good, c.raise_all.auto.weights, c.loop.invariant.long, pre.blank.long)
 
 pub returns-then-weight-ge-MOST : goal.returns-then-weight-ge-MOST
 returns-then-weight-ge-MOST c =
     let pre = c.requires in
-    start_unbounded pre.judges c.count_in-count.ensures c.weigh.ensures c.start_in.ensures c.if-weight-ge-MOST.true
+    let weighed = turned_weighed c.book-book.ensures.at_hand.known c.loop.invariant.sound c.raise_all.ensures c.loop-test.false in
+    start_unbounded pre.judges refl weighed (rw c.book-book.ensures.book at c.start.ensures.start) c.if-weight-ge-MOST.true
 
 pub returns : goal.returns
 returns c =
     let pre = c.requires in
-    rw c.held_by.ensures
-    (start_measured pre.judges c.count_in-count.ensures c.weigh.ensures c.start_in.ensures c.if-weight-ge-MOST.false)
+    let weighed = turned_weighed c.book-book.ensures.at_hand.known c.loop.invariant.sound c.raise_all.ensures c.loop-test.false in
+    rw (c.max.ensures, c.saturating_sub.ensures, held_is)
+    (start_measured pre.judges refl weighed (rw c.book-book.ensures.book at c.start.ensures.start) c.if-weight-ge-MOST.false)

@@ -1,128 +1,97 @@
 -- `reader::events` meets its contract: the run, by where its events stop. Where the slots were written over, reading the events before
 -- again gives the parts held before the event refused.
 use mathlib.Core.Path.{◌≡◌, refl, sym, ◌∙◌}
-use mathlib.Core.Bool.{true}
-use Prim.Native.Nat.{◌<◌}
+use mathlib.Core.List.{List}
+use Prim.Native.Nat.{ℕ, ◌<◌}
 use native.Mathlib.Omega.{arith}
 use borrow.Author.Rules.{rules}
 use lib.ListN.{length, set, take}
 use lib.Seq.{length-take-le}
+use Rattle.std.specs.declared.result.Result.TheVariants.{Ok, Err}
 use Rattle.book.specs.Form.{DONE}
-use Rattle.running.specs.Running.{Plan, tells}
-use Rattle.plan.specs.Form.{plan_from}
-use Rattle.plan.proofs.Runnable.{start_node}
+use Rattle.plan.specs.Form.{plan_from, plan_of, plan_judged}
+use Rattle.plan.proofs.Runnable.{own, start_node}
 use Rattle.reader.specs.Machine.{Passed, slot_of, stopped_at, pass_of}
-use Rattle.reader.specs.Ready.{Ready}
 use Rattle.reader.specs.Reads.{outcome}
+use Rattle.reader.specs.Results.{stop_of}
+use Rattle.reader.proofs.Bars.{not_done, passed_all, whole, silent}
 use Rattle.reader.proofs.Simulation.{bounded}
-use Rattle.reader.proofs.Stops.{Passing, stop_within, done_intact, run-closed, run_silent, run-refused, again_intact, run_again}
+use Rattle.reader.proofs.Stops.{Passing, stop_within, run-closed, run_silent, run-refused, again_intact, run_again}
 use Rattle.reader.proofs.events.Goals as goal
-use Rattle.reader.proofs.events.Goals.{After-pass_events-again, After-pass_events-stop, Else-not-tells_kinds}
+use Rattle.reader.proofs.events.Goals.{In-Err}
 
--- the events passed, and the function's entry
-abbrev Met : Type 0
-Met = After-pass_events-stop
-
-abbrev plan-of : Met → Plan
-plan-of v = plan_from v.args.plan.now v.args.nodes v.args.kinds
-
--- where they stop
-abbrev met : Met → Passed
-met v = stopped_at v.pass_events-stop.result v.pass_events-stop.new.held v.pass_events-stop.new.tree
-
-passing : (v : Met) → Passing (plan-of v) v.args.run.now v.args.held.now v.args.tree.now (met v)
+-- events passed stop so
+passing : (bytes run held tree : List ℕ) {met : Passed} → (plan_judged bytes).number ≡ DONE → 0 < length held
+    → met ≡ pass_of (plan_of bytes) 0 run 1 0 (set held 0 (slot_of (plan_of bytes).start 0)) tree
+    → Passing (plan_of bytes) run held tree met
 unfolding plan_from
-passing v =
-    let pre = v.requires in
-    record { go_nodes = bounded pre.0; start_below = start_node pre.0; some_slot = pre.2; stops = v.pass_events-stop.ensures.0 }
+passing bytes run held tree good some stops =
+    record { go_nodes = bounded (own _ good); start_below = start_node (own _ good); some_slot = some; stops = stops }
 
--- the place is small, and both buffers are as long as they were
-at_small : (v : Met) → v.pass_events-stop.result.at < 65536
-at_small v = omega (arith, stop_within (passing v), v.requires.1)
+-- where an event was refused
+abbrev met : In-Err → Passed
+met v = stopped_at (stop_of (length v.args.run.now) (Err v.in-Err.stop)) v.pass_events.new.held v.pass_events.new.tree
 
-slots-are : (v : Met) → length (met v).held ≡ length v.args.held.now
-slots-are v = v.pass_events-stop.auto.held
+refused : (v : In-Err) → Passing (plan_of v.args.plan.now) v.args.run.now v.args.held.now v.args.tree.now (met v)
+refused v = passing _ _ _ _ v.in-Err.ensures.2 v.requires.1 v.in-Err.ensures.0
 
-room-is : (v : Met) → length (met v).tree ≡ length v.args.tree.now
-room-is v = v.pass_events-stop.auto.tree
+-- the place is small
+at_small : (v : In-Err) → v.in-Err.stop.at < 65536
+at_small v = omega (arith, stop_within (refused v), v.requires.0)
 
--- all events were taken
-done-ready : (v : Met) → v.pass_events-stop.result.number ≡ DONE
-    → Ready v.args.plan.now v.args.nodes v.args.kinds v.pass_events-stop.result.count
-    v.pass_events-stop.result.written (met v).held
-done-ready v is =
-    v.pass_events-stop.ensures.1 (done_intact (passing v) is)
-
-pub close-requires : goal.close-requires
-close-requires c =
-    (done-ready (goal.at.close-requires c).After-pass_events-stop c.if-stop-eq-DONE.true, at_small (goal.at.close-requires c).After-pass_events-stop)
-
-pub returns-then-stop-eq-DONE : goal.returns-then-stop-eq-DONE
+pub returns-in-Ok : goal.returns-in-Ok
 unfolding plan_from
-returns-then-stop-eq-DONE c =
-    run-closed (passing (goal.at.returns-then-stop-eq-DONE c).After-pass_events-stop) c.if-stop-eq-DONE.true (rw (slots-are (goal.at.returns-then-stop-eq-DONE c).After-pass_events-stop) at (done-ready (goal.at.returns-then-stop-eq-DONE c).After-pass_events-stop c.if-stop-eq-DONE.true).parts)
-    (outcome c.close.result c.close.new.tree) c.close.ensures
-    (c.close.auto.tree ∙ room-is (goal.at.returns-then-stop-eq-DONE c).After-pass_events-stop)
+returns-in-Ok c =
+    let passed = passing _ _ _ _ c.in-Ok.ensures.2 c.requires.1 c.in-Ok.ensures.0 in
+    run-closed passed refl (rw c.pass_events.auto.held at (c.in-Ok.ensures.1 refl).parts) (outcome c.close.result c.close.new.tree)
+    c.close.ensures (c.close.auto.tree ∙ c.pass_events.auto.tree)
 
-pub overflow_cast-result : goal.overflow_cast-result
-overflow_cast-result c = omega (arith, at_small (goal.at.overflow_cast-result c).After-pass_events-stop)
+pub overflow_cast-stop : goal.overflow_cast-stop
+overflow_cast-stop c = omega (arith, at_small (goal.at.overflow_cast-stop c).In-Err)
 
-pub returns-then-not-tells_kinds : goal.returns-then-not-tells_kinds
-returns-then-not-tells_kinds c =
-    run_silent (passing (goal.at.returns-then-not-tells_kinds c).After-pass_events-stop) c.if-stop-eq-DONE.false (met (goal.at.returns-then-not-tells_kinds c).After-pass_events-stop).tree (room-is (goal.at.returns-then-not-tells_kinds c).After-pass_events-stop)
-    (sym c.tells_kinds.ensures ∙ c.if-not-tells_kinds.true) refl
+pub slice_bounds-pass_events-end : goal.slice_bounds-pass_events-end
+slice_bounds-pass_events-end c = sym (length-take-le _ _ (stop_within (refused (goal.at.slice_bounds-pass_events-end c).In-Err)))
 
-not_done : (c : Else-not-tells_kinds) → c.pass_events-stop.result.number ≡ DONE → ⊥
-not_done c = c.if-stop-eq-DONE.false
+-- the events before it are read again
+pub unwrap-again-requires : goal.unwrap-again-requires
+unwrap-again-requires c =
+    let size = length (take c.in-Err.stop.at c.args.run.now) in
+    let again = c.pass_events-in-Zero in
+    passed_all size again.result
+    (again_intact (refused (goal.at.unwrap-again-requires c).In-Err) (not_done c.in-Err.stop.refusal) c.pass_events.new.held
+    (take 0 c.pass_events.new.tree) c.pass_events.auto.held (stopped_at (stop_of size again.result) again.new.held again.new.tree)
+    again.ensures.0).1
 
-told : (c : Else-not-tells_kinds) → tells c.pass_events-stop.result.number ≡ true
-told c = sym c.tells_kinds.ensures ∙ c.if-not-tells_kinds.false
-
--- the slots are intact
 pub refuse-requires : goal.refuse-requires
 refuse-requires c =
-    let ready = c.pass_events-stop.ensures.1 c.if-stop.true in
-    (ready.runs, ready.parts, at_small (goal.at.refuse-requires c).After-pass_events-stop)
+    let again = c.pass_events-in-Zero in
+    (((rw c.unwrap-again.ensures at again.ensures.1) refl).parts, at_small (goal.at.refuse-requires c).In-Err)
 
-pub returns-then-stop : goal.returns-then-stop
-returns-then-stop c =
-    run-refused (passing (goal.at.returns-then-stop c).After-pass_events-stop) (not_done (goal.at.returns-then-stop c).Else-not-tells_kinds) (met (goal.at.returns-then-stop c).After-pass_events-stop).tree (room-is (goal.at.returns-then-stop c).After-pass_events-stop) (told (goal.at.returns-then-stop c).Else-not-tells_kinds) c.if-stop.true
-    c.refuse.ensures
+pub refuse-requires-in_default : goal.refuse-requires-in_default
+refuse-requires-in_default c =
+    let r = c.in-Err.stop.refusal in (
+      (c.in-Err.ensures.1 (whole r c.in_default.not-Deep c.in_default.not-Zero c.in_default.not-Runaway).0).parts,
+      at_small (goal.at.refuse-requires-in_default c).In-Err,
+    )
 
--- the events before are read again
-pub slice_bounds-pass_events-end : goal.slice_bounds-pass_events-end
-slice_bounds-pass_events-end c =
-    sym (length-take-le _ _ (stop_within (passing (goal.at.slice_bounds-pass_events-end c).After-pass_events-stop)))
+pub returns-in-Deep : goal.returns-in-Deep
+returns-in-Deep c =
+    let r = c.in-Err.stop.refusal in
+    run_silent (refused (goal.at.returns-in-Deep c).In-Err) (not_done r) c.pass_events.new.tree c.pass_events.auto.tree
+    (silent r c.in-Deep.is) (rw c.from.ensures at c.plain.ensures)
 
-pub pass_events-again-requires : goal.pass_events-again-requires
-pass_events-again-requires c =
-    let pre = c.requires in
-    let short = length-take-le c.pass_events-stop.result.at c.args.run.now (stop_within (passing (goal.at.pass_events-again-requires c).After-pass_events-stop)) in
-    (pre.0, omega (arith, short, at_small (goal.at.pass_events-again-requires c).After-pass_events-stop), omega (arith, slots-are (goal.at.pass_events-again-requires c).After-pass_events-stop, pre.2))
+pub returns-in-Zero : goal.returns-in-Zero
+returns-in-Zero c =
+    let size = length (take c.in-Err.stop.at c.args.run.now) in
+    let again = c.pass_events-in-Zero in
+    run_again (refused (goal.at.returns-in-Zero c).In-Err) (not_done c.in-Err.stop.refusal) c.pass_events.new.held
+    (take 0 c.pass_events.new.tree) c.pass_events.auto.held
+    (stopped_at (stop_of size (Ok c.unwrap-again.result)) again.new.held again.new.tree) (rw c.unwrap-again.ensures at again.ensures.0) _
+    (search rules) (rw c.in-Zero.is refl) c.refuse.ensures
 
--- where they stop, and the refusal before
-abbrev Again : Type 0
-Again = After-pass_events-again
-
-abbrev again : Again → Passed
-again w = stopped_at w.pass_events-again.result w.pass_events-again.new.held w.pass_events-again.new.tree
-
-again-stops : (w : Again)
-    → let a = w.args in
-    again w
-    ≡ pass_of (plan_from a.plan.now a.nodes a.kinds) 0 (take w.pass_events-stop.result.at a.run.now) 1 0
-    (set w.pass_events-stop.new.held 0 (slot_of (plan_from a.plan.now a.nodes a.kinds).start 0)) (take 0 w.pass_events-stop.new.tree)
-unfolding plan_from
-again-stops w = w.pass_events-again.ensures.0
-
-pub refuse-requires-2 : goal.refuse-requires-2
-refuse-requires-2 c =
-    let ready =
-    c.pass_events-again.ensures.1
-    (again_intact (passing (goal.at.refuse-requires-2 c).After-pass_events-stop) (not_done (goal.at.refuse-requires-2 c).Else-not-tells_kinds) (met (goal.at.refuse-requires-2 c).After-pass_events-stop).held (take 0 (met (goal.at.refuse-requires-2 c).After-pass_events-stop).tree) (slots-are (goal.at.refuse-requires-2 c).After-pass_events-stop) (again (goal.at.refuse-requires-2 c).After-pass_events-again) (again-stops (goal.at.refuse-requires-2 c).After-pass_events-again)) in
-    (ready.runs, ready.parts, at_small (goal.at.refuse-requires-2 c).After-pass_events-stop)
-
-pub returns : goal.returns
-returns c =
-    run_again (passing (goal.at.returns c).After-pass_events-stop) (not_done (goal.at.returns c).Else-not-tells_kinds) (met (goal.at.returns c).After-pass_events-stop).held (take 0 (met (goal.at.returns c).After-pass_events-stop).tree) (slots-are (goal.at.returns c).After-pass_events-stop) (again (goal.at.returns c).After-pass_events-again) (again-stops (goal.at.returns c).After-pass_events-again) _
-    (search rules) (told (goal.at.returns c).Else-not-tells_kinds) c.refuse-2.ensures
+pub returns-in_default : goal.returns-in_default
+returns-in_default c =
+    let r = c.in-Err.stop.refusal in
+    let out = whole r c.in_default.not-Deep c.in_default.not-Zero c.in_default.not-Runaway in
+    run-refused (refused (goal.at.returns-in_default c).In-Err) (not_done r) c.pass_events.new.tree c.pass_events.auto.tree out.1 out.0
+    c.refuse-in_default.ensures

@@ -1,10 +1,9 @@
 use mathlib.Core.Path.{refl, sym, ◌∙◌}
 use Prim.Native.Nat.{◌-◌, ◌<◌}
 use native.Mathlib.Omega.{arith}
-use borrow.Author.Tests.{eq-eqb, ne_eqb}
 use lib.Bits.{or_zero_l}
 use lib.ListN.{length, get_or}
-use Rattle.plan.specs.Form.{plan_from}
+use Rattle.plan.specs.Form.{plan_count, plan_from}
 use Rattle.reader.specs.Machine.{node_in}
 use Rattle.reader.proofs.Rows.{joined-all, joined_here, joined_on}
 use Rattle.reader.proofs.expected_by.Goals as goal
@@ -16,10 +15,10 @@ Turn = In-loop-parts
 
 -- the part's slot stands in the slots, and the part is a node
 last_inside : (t : Turn) → t.loop-parts.parts - 1 < length t.args.held.now
-last_inside t = omega (arith, t.loop-parts-test.true, t.loop-parts.invariant.0, t.requires.1.few)
+last_inside t = omega (arith, t.loop-parts-test.true, t.loop-parts.invariant.0, t.requires.few)
 
-last_below : (t : Turn) → node_in (get_or t.args.held.now (t.loop-parts.parts - 1) 0) < t.args.nodes
-last_below t = t.requires.1.below _ (omega (arith, t.loop-parts-test.true, t.loop-parts.invariant.0))
+last_below : (t : Turn) → node_in (get_or t.args.held.now (t.loop-parts.parts - 1) 0) < plan_count t.args.plan.now
+last_below t = t.requires.below _ (omega (arith, t.loop-parts-test.true, t.loop-parts.invariant.0))
 
 pub loop-parts-init : goal.loop-parts-init
 loop-parts-init c = (omega arith, record { rest = or_zero_l _ })
@@ -34,18 +33,18 @@ pub overflow_cast-part : goal.overflow_cast-part
 overflow_cast-part c = omega (arith, c.type_inv.held (c.loop-parts.parts - 1))
 
 pub row_first-set-requires : goal.row_first-set-requires
-row_first-set-requires c = (c.requires.0, last_below (goal.at.row_first-set-requires c).In-loop-parts)
+row_first-set-requires c = last_below (goal.at.row_first-set-requires c).In-loop-parts
 
-pub cell_at-requires : goal.cell_at-requires
-cell_at-requires c = (c.requires.0, last_below (goal.at.cell_at-requires c).In-loop-parts, omega arith)
+pub is_nullable-requires : goal.is_nullable-requires
+is_nullable-requires c = last_below (goal.at.is_nullable-requires c).In-loop-parts
 
 -- the part is not nullable
-pub returns-then-cell_at-ne1 : goal.returns-then-cell_at-ne1
+pub returns-then-not-is_nullable : goal.returns-then-not-is_nullable
 unfolding plan_from
-returns-then-cell_at-ne1 c =
+returns-then-not-is_nullable c =
     rw c.row_first-set.ensures
     (joined_here _ c.loop-parts.invariant.1 c.loop-parts-test.true refl
-    (ne_eqb _ _ (λ is. c.if-cell_at-ne1.true (c.cell_at.ensures.0 ∙ is))))
+    (sym c.is_nullable.ensures.null ∙ c.if-not-is_nullable.true))
 
 -- it is nullable
 pub loop-parts-preserved : goal.loop-parts-preserved
@@ -54,7 +53,7 @@ loop-parts-preserved c = (
   omega (arith, c.loop-parts-test.true, c.loop-parts.invariant.0),
   rw c.row_first-set.ensures
       (joined_on _ c.loop-parts.invariant.1 c.loop-parts-test.true refl
-      (eq-eqb _ _ (sym c.cell_at.ensures.0 ∙ c.if-cell_at-ne1.false))),
+      (sym c.is_nullable.ensures.null ∙ c.if-not-is_nullable.false)),
 )
 
 pub returns : goal.returns

@@ -3,14 +3,14 @@
 use Prim.Native.Nat.{◌≤◌}
 use Rattle.running.specs.Running.{expected}
 use Rattle.running.specs.Stages.{nodes_of}
-use Rattle.plan.specs.Form.{plan_from}
+use Rattle.plan.specs.Form.{plan_of}
 use Rattle.reader.specs.Machine.{stack}
 use Rattle.reader.proofs.Rows.{Joining}
 use Rattle.reader.proofs.expected_by.Given as goal
 
 abbrev pub invariant-loop-parts : goal.invariant-loop-parts
 invariant-loop-parts l =
-    (l.parts ≤ l.count) × Joining (plan_from l.plan l.nodes l.kinds) l.held (expected (plan_from l.plan l.nodes l.kinds) (nodes_of (stack l.held l.count))) l.set l.parts
+    (l.parts ≤ l.count) × Joining (plan_of l.plan) l.held (expected (plan_of l.plan) (nodes_of (stack l.held l.count))) l.set l.parts
 
 abbrev pub decreases-loop-parts : goal.decreases-loop-parts
 decreases-loop-parts l = l.parts

@@ -2,15 +2,15 @@
 -- measure is the parts left.
 use Prim.Native.Nat.{◌+◌}
 use lib.ListN.{length}
-use Rattle.plan.specs.Form.{plan_from}
+use Rattle.plan.specs.Form.{plan_count, plan_of}
 use Rattle.reader.specs.Machine.{finish_of}
 use Rattle.reader.proofs.PartsTakenOff.{Taking}
 use Rattle.reader.proofs.finish.Given as goal
 
-abbrev pub invariant-loop-parts : goal.invariant-loop-parts
-invariant-loop-parts l =
-    Taking (finish_of (plan_from l.plan l.nodes l.kinds)) (finish_of (plan_from l.plan l.nodes l.kinds) l.count l.written l.held l.initial.tree)
-    l.nodes (length l.held) (length l.initial.tree) (l.written + l.count) l.parts l.records l.held l.tree
+abbrev pub invariant-loop-standing : goal.invariant-loop-standing
+invariant-loop-standing l =
+    Taking (finish_of (plan_of l.plan)) (finish_of (plan_of l.plan) l.fn.standing.count l.fn.standing.written l.held l.initial.tree)
+    (plan_count l.plan) (length l.held) (length l.initial.tree) (l.fn.standing.written + l.fn.standing.count) l.standing.count l.standing.written l.held l.tree
 
-abbrev pub decreases-loop-parts : goal.decreases-loop-parts
-decreases-loop-parts l = l.parts
+abbrev pub decreases-loop-standing : goal.decreases-loop-standing
+decreases-loop-standing l = l.standing.count

@@ -1,28 +1,33 @@
 -- `resolving::collect_word` meets its contract.
-use Rattle.resolving.proofs.Words.{no_word, names_rule, seen_kind, no_room, put_down}
+use mathlib.Core.Path.{sym, ◌∙◌}
+use Rattle.resolving.proofs.Words.{no_word, names_rule, seen_kind, no_room, put_down, found_known, found_unknown}
 use Rattle.resolving.proofs.collect_word.Goals as goal
 
-pub returns-then-sort-ne2 : goal.returns-then-sort-ne2
-returns-then-sort-ne2 c = no_word _ _ _ _ _ _ c.if-sort-ne2.true c.requires.2
+pub returns-in_default : goal.returns-in_default
+returns-in_default c = no_word _ _ _ _ _ _ c.in_default.not-Token c.requires.1
 
-pub returns-then-find_word-rules : goal.returns-then-find_word-rules
-returns-then-find_word-rules c =
-    names_rule _ _ _ _ _ _ c.if-sort-ne2.false c.requires.2
-    c.find_word.ensures c.if-find_word-rules.true
+pub returns-then-is_some : goal.returns-then-is_some
+returns-then-is_some c =
+    rw c.in-Token.is
+    (names_rule _ _ _ _ _ _ c.requires.1 (rw c.word_at-word.ensures at (found_known _ _ _ c.find_rule.ensures (sym c.is_some.ensures ∙ c.if-is_some.true))))
 
-pub returns-then-find_word-many : goal.returns-then-find_word-many
-returns-then-find_word-many c =
-    seen_kind _ _ _ _ _ _ c.if-sort-ne2.false
-    c.requires.2 c.find_word-2.ensures c.if-find_word-many.true
+pub returns-then-is_some-2 : goal.returns-then-is_some-2
+returns-then-is_some-2 c =
+    rw c.in-Token.is
+    (seen_kind _ _ _ _ _ _ c.requires.1 (rw c.word_at-word.ensures at (found_known _ _ _ c.find_kind.ensures (sym c.is_some-2.ensures ∙ c.if-is_some-2.true))))
 
-pub returns-then-many-eq64 : goal.returns-then-many-eq64
-returns-then-many-eq64 c =
-    no_room _ _ _ _ _ _ c.if-sort-ne2.false c.requires.2
-    c.find_word.ensures c.if-find_word-rules.false
-    c.find_word-2.ensures c.if-find_word-many.false c.if-many-eq64.true
+pub returns-then-many-eq-KINDS : goal.returns-then-many-eq-KINDS
+returns-then-many-eq-KINDS c =
+    rw c.in-Token.is
+    (no_room _ _ _ _ _ _ c.requires.1
+    (rw c.word_at-word.ensures at (found_unknown _ _ _ c.find_rule.ensures (sym c.is_some.ensures ∙ c.if-is_some.false)))
+    (rw c.word_at-word.ensures at (found_unknown _ _ _ c.find_kind.ensures (sym c.is_some-2.ensures ∙ c.if-is_some-2.false)))
+    c.requires.0 c.if-many-eq-KINDS.true)
 
 pub returns : goal.returns
 returns c =
-    put_down _ _ _ _ _ _ c.if-sort-ne2.false c.requires.2
-    c.find_word.ensures c.if-find_word-rules.false
-    c.find_word-2.ensures c.if-find_word-many.false c.if-many-eq64.false c.requires.1
+    rw c.in-Token.is
+    (put_down _ _ _ _ _ _ c.requires.1
+    (rw c.word_at-word.ensures at (found_unknown _ _ _ c.find_rule.ensures (sym c.is_some.ensures ∙ c.if-is_some.false)))
+    (rw c.word_at-word.ensures at (found_unknown _ _ _ c.find_kind.ensures (sym c.is_some-2.ensures ∙ c.if-is_some-2.false)))
+    c.requires.0 c.if-many-eq-KINDS.false)

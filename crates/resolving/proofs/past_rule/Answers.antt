@@ -1,19 +1,14 @@
-use mathlib.Core.Path.{refl, sym, ◌∙◌}
-use Prim.Native.Nat.{◌-◌}
-use Rattle.resolving.proofs.Lines.{rule_end, rule-ends, rule_goes}
+-- `resolving::past_rule` meets its contract.
+use mathlib.Core.Bool.{not}
+use lib.Dec.{eqb}
+use borrow.Author.Rules.{rules}
+use Rattle.resolving.proofs.Letters.{by_test, rule_passed, rule_missed}
 use Rattle.resolving.proofs.past_rule.Goals as goal
 
-pub loop-at-init : goal.loop-at-init
-loop-at-init c = refl
+pub returns-then-end-text : goal.returns-then-end-text
+returns-then-end-text c =
+    rule_passed (by_test (λ byte. not (eqb byte 59)) (λ byte r met. search rules) c.past-end.ensures) c.if-end-text.true
 
-pub returns-then-byte-eq59 : goal.returns-then-byte-eq59
-returns-then-byte-eq59 c =
-    sym (rule-ends _ c.loop-at-test.true c.look-byte.ensures c.if-byte-eq59.true)
-    ∙ c.loop-at.invariant
-
-pub loop-at-preserved : goal.loop-at-preserved
-loop-at-preserved c =
-    rule_goes _ c.loop-at-test.true c.look-byte.ensures c.if-byte-eq59.false ∙ c.loop-at.invariant
-
-pub returns : goal.returns
-returns c = sym (rule_end _ c.loop-at-test.false) ∙ c.loop-at.invariant
+pub returns-else-end-text : goal.returns-else-end-text
+returns-else-end-text c =
+    rule_missed (by_test (λ byte. not (eqb byte 59)) (λ byte r met. search rules) c.past-end.ensures) c.if-end-text.false

@@ -4,8 +4,9 @@ use Prim.Native.Nat.{ℕ, ◌<◌}
 use mathlib.Core.Path.{◌≡◌}
 use mathlib.Core.Bool.{false}
 use lib.ListN.{length}
-use Rattle.book.specs.Decode.{nodes}
-use Rattle.rules.specs.Growth.{masks}
+use Rattle.book.specs.Form.{book_of}
+use Rattle.rules.specs.Facts.{flat}
+use Rattle.rules.specs.Growth.{masks, Narrow}
 use Rattle.rules.specs.Step.{FactAt, is_ref, RuleClosed}
 use Rattle.rules.proofs.Growing.{Settling}
 use Rattle.rules.proofs.Growing.{room_left}
@@ -13,8 +14,9 @@ use Rattle.rules.proofs.least_facts.Given as goal
 
 abbrev pub invariant-loop-table : goal.invariant-loop-table
 invariant-loop-table l =
-    Settling masks (FactAt (nodes l.book l.base l.count)) l.initial.table l.table
-    × ((n : ℕ) → n < l.count → is_ref (nodes l.book l.base l.count n) ≡ false → RuleClosed (nodes l.book l.base l.count) l.table n)
+    (Settling masks (FactAt (book_of l.book).node) (flat l.initial.table) (flat l.table)
+    × ((n : ℕ) → n < (book_of l.book).count → is_ref ((book_of l.book).node n) ≡ false → RuleClosed (book_of l.book).node (flat l.table) n))
+    × Narrow (flat l.table)
 
 abbrev pub decreases-loop-table : goal.decreases-loop-table
-decreases-loop-table l = room_left (length l.initial.table) l.table
+decreases-loop-table l = room_left (length (flat l.initial.table)) (flat l.table)

@@ -1,73 +1,59 @@
 use borrow.Author.Rules.{rules}
-use mathlib.Core.Path.{◌∙◌}
-use mathlib.Core.Bool.{false≢true}
+use mathlib.Core.Path.{ap}
+use mathlib.Core.Bool.{Bool, ◌||◌}
 use native.Mathlib.Omega.{arith}
-use Rattle.rules.proofs.Growing.{settling_none, settling_more, settling_less}
-use Rattle.rules.proofs.Spreading.{start_sound, start_marked, turned_reached, all_reached}
+use Rattle.book.specs.Form.{book_of}
+use Rattle.book.proofs.Decoded.{formed, well_formed}
+use Rattle.rules.proofs.Growing.{downward_order, settling_none, settling_less, grown_then}
+use Rattle.rules.proofs.Spreading.{start_sound, start_marked, spread_more, spread_end, all_reached}
 use Rattle.rules.proofs.reach.Goals as goal
 
 pub mark-requires : goal.mark-requires
-mark-requires c = omega (arith, c.requires.good_nodes.few_nodes, c.requires.blank.long)
+mark-requires c = omega (arith, c.start.ensures.below, c.count-count.ensures.count, c.count-count.ensures.few, c.requires.long)
 
 pub loop-marks-init : goal.loop-marks-init
 loop-marks-init c =
-    let pre = c.requires in
-    settling_none (start_sound pre.blank (omega (arith, pre.good_nodes.few_nodes)) c.mark.ensures)
+    settling_none
+    (rw c.start.ensures.start at (start_sound c.requires (omega (arith, c.start.ensures.below, c.count-count.ensures.count, c.count-count.ensures.few)) c.mark.ensures
+    {node = (book_of c.args.book.now).node}))
 
-pub spread_all-requires : goal.spread_all-requires
-spread_all-requires c =
-    let pre = c.requires in
-    record {
-      good_nodes = pre.good_nodes;
-      marks_size_in_bounds = omega (arith, pre.blank.long, c.mark.auto.marks, c.loop-marks.invariant.long);
-    }
-
-pub all_marked-requires : goal.all_marked-requires
-all_marked-requires c =
-    let pre = c.requires in
-    let settling = c.loop-marks.invariant in
-    let long = (settling_more settling (c.spread_all.ensures.from _ settling.sound).grown).long in
-    record {
-      count_bound = pre.good_nodes.few_nodes;
-      marks_size_in_bounds = omega (arith, pre.blank.long, c.mark.auto.marks, long);
-    }
-
-pub shape_of-marks-then-all_marked : goal.shape_of-marks-then-all_marked
-shape_of-marks-then-all_marked c =
-    let settling = c.loop-marks.invariant in
-    (settling_more settling (c.spread_all.ensures.from _ settling.sound).grown).long
-    ∙ c.mark.auto.marks
+pub spread_all-requires-clause-order : goal.spread_all-requires-clause-order
+spread_all-requires-clause-order c = downward_order _ (λ step below. search rules) (λ step n given. search rules)
 
 pub returns-then-all_marked : goal.returns-then-all_marked
 returns-then-all_marked c =
-    let settling = c.loop-marks.invariant in
-    let all = c.all_marked.ensures c.if-all_marked.true in
-    (all_reached (settling_more settling (c.spread_all.ensures.from _ settling.sound).grown).sound all, (λ is. all))
+    let all = rw c.count-count.ensures.count at (c.all_marked.ensures c.if-all_marked.true) in
+    (all_reached (spread_more c.loop-marks.invariant c.spread_all.ensures).sound all, (λ is. all))
+
+pub returns-then-not-spread_all : goal.returns-then-not-spread_all
+returns-then-not-spread_all c =
+    let started =
+    rw c.start.ensures.start
+    at (start_marked c.requires (omega (arith, c.start.ensures.below, c.count-count.ensures.count, c.count-count.ensures.few)) c.mark.ensures) in
+    spread_end (well_formed (formed _ c.count-count.ensures.form)) started (spread_more c.loop-marks.invariant c.spread_all.ensures)
+    c.spread_all-in-loop-marks.ensures
+    c.if-not-spread_all.true
+
+pub returns-then-all_marked-2 : goal.returns-then-all_marked-2
+returns-then-all_marked-2 c =
+    let all = rw c.count-count.ensures.count at (c.all_marked-in-loop-marks.ensures c.if-all_marked-2.true) in
+    let settling = spread_more (spread_more c.loop-marks.invariant c.spread_all.ensures) c.spread_all-in-loop-marks.ensures in
+    (all_reached settling.sound all, (λ is. all))
+
+pub loop-marks-preserved : goal.loop-marks-preserved
+loop-marks-preserved c = spread_more (spread_more c.loop-marks.invariant c.spread_all.ensures) c.spread_all-in-loop-marks.ensures
 
 pub loop-marks-smaller : goal.loop-marks-smaller
 loop-marks-smaller c =
     let settling = c.loop-marks.invariant in
-    settling_less settling (c.spread_all.ensures.from _ settling.sound).grown c.loop-marks-test.true
+    let first = c.spread_all.ensures.from _ settling.sound in
+    let second = c.spread_all-in-loop-marks.ensures.from _ (spread_more settling c.spread_all.ensures).sound in
+    settling_less settling (grown_then first.grown second.grown) (ap (λ (changed : Bool). changed || c.spread_all-in-loop-marks.result) c.loop-marks-test.true)
     (search rules)
-
-pub loop-marks-preserved : goal.loop-marks-preserved
-loop-marks-preserved c =
-    let settling = c.loop-marks.invariant in
-    settling_more settling (c.spread_all.ensures.from _ settling.sound).grown
-
-pub shape_of-marks : goal.shape_of-marks
-shape_of-marks c =
-    let settling = c.loop-marks.invariant in
-    (settling_more settling (c.spread_all.ensures.from _ settling.sound).grown).long
-    ∙ c.mark.auto.marks
 
 pub returns : goal.returns
 returns c =
-    let pre = c.requires in
-    let settling = c.loop-marks.invariant in
-    let started = start_marked pre.blank (omega (arith, pre.good_nodes.few_nodes)) c.mark.ensures in (
-      turned_reached pre.good_nodes.proper pre.start_lt_count settling.sound (record { mark = settling.keeps _ _ started.mark })
-          (c.spread_all.ensures.from _ settling.sound)
-          c.loop-marks-test.false,
-      (λ is. absurd (false≢true is)),
-    )
+    let started =
+    rw c.start.ensures.start
+    at (start_marked c.requires (omega (arith, c.start.ensures.below, c.count-count.ensures.count, c.count-count.ensures.few)) c.mark.ensures) in
+    spread_end (well_formed (formed _ c.count-count.ensures.form)) started c.loop-marks.invariant c.spread_all.ensures c.loop-marks-test.false

@@ -1,30 +1,51 @@
-use mathlib.Core.Path.{refl, ◌∙◌}
 use native.Mathlib.Omega.{arith}
-use Rattle.rules.proofs.Growing.{turning_none, turning_more, turning_end, grown_sound}
+use Rattle.rules.proofs.Growing.{turning_none, turning_more, turning_past, turning_end, grown_sound, given_before, order_below, order_all}
+use Rattle.rules.proofs.Reading.{left-inside, right_inside}
+use Rattle.rules.proofs.Spreading.{told_marked, children_spread, unmarked_closed}
+use Rattle.rules.proofs.spread_all.Goals.{then-is_marked, else-is_marked}
 use Rattle.rules.proofs.spread_all.Goals as goal
 
-pub loop-i-init : goal.loop-i-init
-loop-i-init c = (refl, λ start sound. turning_none _)
+pub loop-step-init : goal.loop-step-init
+loop-step-init g c = λ start sound. turning_none _ (λ n done. omega (arith, done))
 
-pub spread-changed-requires : goal.spread-changed-requires
-spread-changed-requires c =
-    let pre = c.requires in
-    record {
-      good_nodes = pre.good_nodes;
-      n_lt_count = c.visited.ensures.1;
-      marks_size_in_bounds = omega (arith, c.loop-i.invariant.0, pre.marks_size_in_bounds);
-    }
+pub mark-left-requires : goal.mark-left-requires
+mark-left-requires g c =
+    let known = c.count-count.ensures in
+    let below = order_below c.requires.order known.count c.loop-step-test.true c.order-n.ensures in
+    omega (arith, c.left_from.ensures, left-inside _ known.form below c.node-node.ensures, known.count, known.few, c.loop-step.auto.marks, c.requires.marks_size_in_bounds)
 
-pub loop-i-preserved : goal.loop-i-preserved
-loop-i-preserved c = (
-  c.spread-changed.auto.marks ∙ c.loop-i.invariant.0,
-  λ start sound.
-      let turning = c.loop-i.invariant.1 start sound in
-      turning_more turning c.visited.ensures.0 (c.spread-changed.ensures.from start (grown_sound turning.grown sound)),
-)
+pub mark-right-requires : goal.mark-right-requires
+mark-right-requires g c =
+    let known = c.count-count.ensures in
+    let below = order_below c.requires.order known.count c.loop-step-test.true c.order-n.ensures in
+    omega (
+      arith,
+      c.right_from.ensures,
+      right_inside _ known.form below c.node-node.ensures,
+      known.count,
+      known.few,
+      c.mark-left.auto.marks,
+      c.loop-step.auto.marks,
+      c.requires.marks_size_in_bounds,
+    )
 
-pub shape_of-marks : goal.shape_of-marks
-shape_of-marks c = c.loop-i.invariant.0
+pub loop-step-preserved : goal.loop-step-preserved
+loop-step-preserved g c start sound =
+    let known = c.count-count.ensures in
+    let below = order_below c.requires.order known.count c.loop-step-test.true c.order-n.ensures in
+    let turning = c.loop-step.invariant start sound in
+    elim c.if-is_marked.branch [
+      | then-is_marked w ↦
+          let here = told_marked c.is_marked.ensures w.if-is_marked.true in
+          let spread = children_spread _ known.form below w.node-node.ensures (omega (arith, c.loop-step.auto.marks, c.requires.marks_size_in_bounds)) here
+          w.left_from.ensures w.mark-left.ensures w.right_from.ensures w.mark-right.ensures in
+          rw (w.marks-is, w.changed-is) (turning_more turning (spread.from start (grown_sound turning.grown sound)) (given_before c.order-n.ensures))
+      | else-is_marked w ↦
+          let closed = unmarked_closed c.is_marked.ensures w.if-is_marked.false in
+          rw (w.marks-is, w.changed-is) (turning_past turning closed (given_before c.order-n.ensures))
+    ]
 
 pub returns : goal.returns
-returns c = record { from = λ start sound. turning_end (c.loop-i.invariant.1 start sound) c.loop-i-test.false }
+returns g c = record {
+  from = λ start sound. turning_end (c.loop-step.invariant start sound) (order_all c.requires.order c.count-count.ensures.count c.loop-step-test.false);
+}

@@ -1,28 +1,47 @@
+use Prim.Native.Nat.{◌<◌}
 use native.Mathlib.Omega.{arith}
+use Rattle.book.specs.Form.{book_of}
+use Rattle.book.proofs.Decoded.{formed, well_formed}
+use Rattle.rules.proofs.Flat.{flat_longer}
 use Rattle.rules.proofs.Growing.{grown_sound}
+use Rattle.rules.proofs.Reading.{left_or_zero, right_or_zero, kind_inside}
+use Rattle.rules.proofs.Steps.{rules_put}
 use Rattle.rules.proofs.Climbing.{climbed_none, climbed_more, climbed_end}
 use Rattle.rules.proofs.visit_all.Goals as goal
 
-pub loop-i-init : goal.loop-i-init
-loop-i-init c = climbed_none _
+pub loop-n-init : goal.loop-n-init
+loop-n-init c = (climbed_none _, λ narrow. narrow)
 
-pub visit-changed-requires : goal.visit-changed-requires
-visit-changed-requires c =
-    let climbed = c.loop-i.invariant in
+pub node-requires : goal.node-requires
+node-requires c = omega (arith, c.loop-n-test.true, c.count-n-end.ensures.count)
+
+pub ruled-facts-requires : goal.ruled-facts-requires
+ruled-facts-requires c =
+    let form = c.count-n-end.ensures.form in
+    let below : c.loop-n.n < (book_of c.args.book.now).count = omega (arith, c.loop-n-test.true, c.count-n-end.ensures.count) in
+    let climbed = c.loop-n.invariant.0 in
     let pre = c.requires in
     record {
-      good_nodes = pre.good_nodes;
-      n_lt_count = c.loop-i-test.true;
-      count_in_bounds = omega (arith, climbed.grown.long, pre.count_in_bounds);
-      sound = grown_sound climbed.grown pre.sound;
+      node_bound = kind_inside _ form below c.node.ensures;
+      node_in_bounds = omega (arith, left_or_zero _ form below c.node.ensures, flat_longer c.args.table.now c.loop-n.table climbed.grown.long, pre.count_in_bounds);
+      node_in_bounds_2 = omega (arith, right_or_zero _ form below c.node.ensures, flat_longer c.args.table.now c.loop-n.table climbed.grown.long, pre.count_in_bounds);
     }
 
-pub loop-i-preserved : goal.loop-i-preserved
-loop-i-preserved c =
-    climbed_more c.requires.good_nodes.proper c.loop-i-test.true c.loop-i.invariant c.visit-changed.ensures
+pub loop-n-preserved : goal.loop-n-preserved
+loop-n-preserved c =
+    let wf = well_formed (formed _ c.count-n-end.ensures.form) in
+    let below : c.loop-n.n < (book_of c.args.book.now).count = omega (arith, c.loop-n-test.true, c.count-n-end.ensures.count) in
+    let climbed = c.loop-n.invariant.0 in (
+      climbed_more wf.proper below climbed
+          (rules_put (grown_sound climbed.grown c.requires.sound) c.node.ensures c.ruled-facts.ensures c.put-changed.ensures.put),
+      λ narrow. c.put-changed.ensures.narrow (c.loop-n.invariant.1 narrow),
+    )
 
 pub shape_of-table : goal.shape_of-table
-shape_of-table c = c.loop-i.invariant.grown.long
+shape_of-table c = flat_longer _ _ c.loop-n.invariant.0.grown.long
 
-pub returns : goal.returns
-returns c = climbed_end c.loop-i-test.false c.loop-i.invariant
+pub returns-clause-climbed : goal.returns-clause-climbed
+returns-clause-climbed c = climbed_end (omega (arith, c.loop-n-test.false, c.count-n-end.ensures.count)) c.loop-n.invariant.0
+
+pub returns-clause-narrow : goal.returns-clause-narrow
+returns-clause-narrow c = c.loop-n.invariant.1

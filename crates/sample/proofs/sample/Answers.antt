@@ -1,5 +1,5 @@
 -- `sample::sample` meets its contract: the table of facts is blank and long enough for the book.
-use Rattle.sample.proofs.Answers.{table-blank}
+use Rattle.verdict.proofs.Books.{table-blank}
 use Rattle.sample.proofs.sample.Goals as goal
 
 pub sample_by-requires : goal.sample_by-requires

@@ -1,21 +1,13 @@
 -- `sample::sample_by` meets its contract: what judging says, or on to the sample.
-use Prim.Native.Nat.{ℕ}
-use lib.ListN.{length-replicate}
-use Rattle.verdict.proofs.Passing.{passed_judges}
-use Rattle.weights.proofs.Lowering.{fresh_caps}
-use Rattle.sample.specs.Samples.{refused}
-use Rattle.sample.proofs.Answers.{hands_out}
+use mathlib.Core.Path.{refl}
+use Rattle.sample.specs.declared.SampleError.TheVariants.{Judged}
+use Rattle.sample.proofs.Answers.{handed_on, book_refused, fresh_any}
 use Rattle.sample.proofs.sample_by.Goals as goal
 
-pub returns-then-verdict-ne-DONE : goal.returns-then-verdict-ne-DONE
-returns-then-verdict-ne-DONE c =
-    let judged = c.judge-verdict.ensures in
-    hands_out (refused judged.judges c.if-verdict-ne-DONE.true) c.refuse.ensures
+pub returns-in_err-passed : goal.returns-in_err-passed
+returns-in_err-passed c =
+    handed_on _ _ _ (Judged c.in_err-passed.field-0.0) c.from_residual.ensures.1 (book_refused _ c.in_err-passed.ensures)
 
-pub weigh-requires : goal.weigh-requires
-weigh-requires c =
-    let judged = c.judge-verdict.ensures in
-    record {
-      judges = passed_judges judged.judges c.if-verdict-ne-DONE.false;
-      fresh = (fresh_caps 512, length-replicate {A = ℕ} 512 4194304);
-    }
+pub least_weights-requires : goal.least_weights-requires
+least_weights-requires c =
+    rw c.in_ok-passed.ensures.0 (fresh_any _ (c.in_ok-passed.ensures.1.known refl).good.form)

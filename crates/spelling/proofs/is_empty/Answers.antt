@@ -1,12 +1,8 @@
--- `spelling::is_empty` meets its contract: another length is another word; of five letters each is looked at.
-use Prim.Native.Nat.{◌-◌}
-use native.Mathlib.Omega.{arith}
-use Rattle.spelling.proofs.Words.{not_empty, five_letters}
+-- `spelling::is_empty` meets its contract: slices are the same as words are.
+use mathlib.Core.Path.{ap, ◌∙◌}
+use Rattle.sheets.specs.Text.{same}
+use Rattle.spelling.proofs.Words.{same_words}
 use Rattle.spelling.proofs.is_empty.Goals as goal
 
-pub returns-then-end-at-ne5 : goal.returns-then-end-at-ne5
-returns-then-end-at-ne5 c = not_empty c.args.s.now _ _ c.requires.1 c.if-end-at-ne5.true
-
 pub returns : goal.returns
-returns c =
-    five_letters c.args.s.now _ _ c.requires.1 (omega arith)
+returns c = c.eq.ensures ∙ same_words _ _ ∙ ap (same _) c.as_slice.ensures

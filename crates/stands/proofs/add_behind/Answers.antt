@@ -1,6 +1,6 @@
 -- `stands::add_behind` meets its contract: four parts, one after the other.
 use borrow.Author.Tests.{eq-eqb, ne_eqb}
-use Rattle.prints.proofs.Laws.{adds_then}
+use Rattle.prints.proofs.Laws.{added_then}
 use Rattle.stands.specs.Stands.{due_behind}
 use Rattle.stands.proofs.add_behind.Goals as goal
 
@@ -8,14 +8,10 @@ pub returns-then-opens-eq0 : goal.returns-then-opens-eq0
 unfolding due_behind
 returns-then-opens-eq0 c =
     rw (eq-eqb _ _ c.if-opens-eq0.true)
-    (adds_then
-    (adds_then (adds_then c.add_where-first.ensures c.add_where-second.ensures) c.add_bytes-third.ensures)
-    c.add_bytes.ensures)
+    (added_then (added_then (added_then c.add_where.ensures c.add_where-2.ensures) c.add.ensures) c.add-then-opens-eq0.ensures)
 
-pub returns : goal.returns
+pub returns-else-opens-eq0 : goal.returns-else-opens-eq0
 unfolding due_behind
-returns c =
+returns-else-opens-eq0 c =
     rw (ne_eqb _ _ c.if-opens-eq0.false)
-    (adds_then
-    (adds_then (adds_then c.add_where-first.ensures c.add_where-second.ensures) c.add_bytes-third.ensures)
-    c.add_bytes-2.ensures)
+    (added_then (added_then (added_then c.add_where.ensures c.add_where-2.ensures) c.add.ensures) c.add-else-opens-eq0.ensures)

@@ -5,8 +5,8 @@ use Rattle.stands.proofs.add_factor.Goals as goal
 
 pub returns-then-opens-lt32 : goal.returns-then-opens-lt32
 unfolding due_text
-returns-then-opens-lt32 c = rw (lt-ltb _ _ c.if-opens-lt32.true) c.add_bytes.ensures
+returns-then-opens-lt32 c = rw (lt-ltb _ _ c.if-opens-lt32.true) c.add.ensures
 
-pub returns : goal.returns
+pub returns-else-opens-lt32 : goal.returns-else-opens-lt32
 unfolding due_text
-returns c = rw (le-ltb _ _ c.if-opens-lt32.false) c.add_bytes-2.ensures
+returns-else-opens-lt32 c = rw (le-ltb _ _ c.if-opens-lt32.false) c.add-else-opens-lt32.ensures

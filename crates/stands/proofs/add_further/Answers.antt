@@ -1,6 +1,7 @@
--- `stands::add_further` meets its contract.
-use Rattle.prints.proofs.Laws.{adds_then}
+-- `stands::add_further` meets its contract: the further factors, and what comes behind one.
+use Rattle.prints.proofs.Laws.{added_then}
 use Rattle.stands.proofs.add_further.Goals as goal
 
 pub returns : goal.returns
-returns c = adds_then c.add_bytes-next.ensures c.add_behind.ensures
+returns c =
+    added_then c.add.ensures c.add_behind.ensures

@@ -6,14 +6,14 @@ use Rattle.stands.proofs.add_in_name.Goals as goal
 
 pub returns-then-kept-eq5 : goal.returns-then-kept-eq5
 unfolding due_in_name
-returns-then-kept-eq5 c = rw (eq-eqb _ _ c.if-kept-eq5.true) c.add_bytes.ensures
+returns-then-kept-eq5 c = rw (eq-eqb _ _ c.if-kept-eq5.true) c.add.ensures
 
 pub returns-then-size-lt16 : goal.returns-then-size-lt16
 unfolding due_in_name
 returns-then-size-lt16 c =
-    rw (ne_eqb _ _ c.if-kept-eq5.false, lt-ltb _ _ c.if-size-lt16.true) c.add_bytes-then-size-lt16.ensures
+    rw (ne_eqb _ _ c.if-kept-eq5.false, lt-ltb _ _ c.if-size-lt16.true) c.add-then-size-lt16.ensures
 
-pub returns : goal.returns
+pub returns-else-size-lt16 : goal.returns-else-size-lt16
 unfolding due_in_name
-returns c =
-    rw (ne_eqb _ _ c.if-kept-eq5.false, le-ltb _ _ c.if-size-lt16.false) c.add_bytes-2.ensures
+returns-else-size-lt16 c =
+    rw (ne_eqb _ _ c.if-kept-eq5.false, le-ltb _ _ c.if-size-lt16.false) c.add-else-size-lt16.ensures

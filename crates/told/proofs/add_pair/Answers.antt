@@ -1,7 +1,7 @@
--- `told::add_pair` meets its contract.
-use Rattle.prints.proofs.Laws.{adds_then}
+-- `told::add_pair` meets its contract: the word, and two numbers.
+use Rattle.prints.proofs.Laws.{added_then}
 use Rattle.told.proofs.add_pair.Goals as goal
 
 pub returns : goal.returns
 returns c =
-    adds_then (adds_then c.add_bytes-first.ensures c.add_spaced-second.ensures) c.add_spaced.ensures
+    added_then (added_then c.add.ensures c.add_spaced.ensures) c.add_spaced-2.ensures

@@ -1,8 +1,11 @@
-use mathlib.Core.Path.{◌∙◌}
+use mathlib.Core.Path.{◌≡◌, refl, sym, ◌∙◌}
+use mathlib.Core.Bool.{cond}
 use native.Mathlib.Omega.{arith}
 use lib.ListN.{length-set}
 use Rattle.writer.proofs.StoredByKinds.{by_kinds_none, by_kinds_less, by_kinds_more, by_kinds_all}
+use Rattle.kinds.specs.Kinds.{has?}
 use Rattle.writer.proofs.put_row.Goals as goal
+use Rattle.writer.proofs.put_row.Goals.{then-has, else-has}
 
 pub loop-k-init : goal.loop-k-init
 loop-k-init c = (by_kinds_none _ _ _ _ _ (omega arith) c.requires.2, c.lowest-k.ensures)
@@ -15,10 +18,15 @@ loop-k-smaller c =
 pub loop-k-preserved : goal.loop-k-preserved
 loop-k-preserved c =
     let inv = c.loop-k.invariant in
-    let pre = c.requires in (
-      by_kinds_more _ _ _ _ inv.0 inv.1 pre.1 (omega (arith, pre.0)) c.loop-k-test.true
-          (c.cell_if.ensures ∙ rw c.has.ensures)
-          c.without-rest.ensures,
+    let pre = c.requires in
+    let row = c.args.row in
+    let chosen : c.if-has.plan ≡ cond (has? row.left c.loop-k.k) row.near row.far =
+    elim c.if-has.branch [
+      | then-has w ↦ w.plan-is ∙ rw (sym c.has.ensures ∙ w.if-has.true) refl
+      | else-has w ↦ w.plan-is ∙ rw (sym c.has.ensures ∙ w.if-has.false) refl
+    ]
+    in (
+      by_kinds_more _ _ _ _ inv.0 inv.1 pre.1 (omega (arith, pre.0)) c.loop-k-test.true chosen c.without-rest.ensures,
       c.lowest-k-in-loop-k.ensures,
     )
 

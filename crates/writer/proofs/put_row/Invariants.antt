@@ -7,7 +7,7 @@ use Rattle.writer.proofs.put_row.Given as goal
 
 abbrev pub invariant-loop-k : goal.invariant-loop-k
 invariant-loop-k l =
-    StoredByKinds l.first l.left l.near l.far l.initial.plan l.plan l.at l.kinds l.rest × (l.k ≡ lowest_kind l.rest)
+    StoredByKinds l.row.first l.row.left l.row.near l.row.far l.initial.plan l.plan l.at l.kinds l.rest × (l.k ≡ lowest_kind l.rest)
 
 abbrev pub decreases-loop-k : goal.decreases-loop-k
 decreases-loop-k l = l.rest

@@ -1,0 +1,37 @@
+use borrow.Author.Rules.{rules}
+use Rattle.book.proofs.Decoded.{formed, well_formed}
+use Rattle.rules.proofs.Growing.{downward_order, settling_none, settling_more}
+use Rattle.lengths.proofs.Kinded.{book_kinded}
+use Rattle.lengths.proofs.Lowering.{caps_sound, turned_leasts}
+use Rattle.lengths.proofs.least.Goals as goal
+
+pub loop-table-init : goal.loop-table-init
+loop-table-init g c = settling_none (caps_sound c.requires)
+
+pub lower_all-requires-clause-sound : goal.lower_all-requires-clause-sound
+lower_all-requires-clause-sound g c = c.loop-table.invariant.sound
+
+pub lower_all-requires-in-loop-table-clause-order : goal.lower_all-requires-in-loop-table-clause-order
+lower_all-requires-in-loop-table-clause-order g c = downward_order _ (λ step below. search rules) (λ step n given. search rules)
+
+pub lower_all-requires-in-loop-table-clause-sound : goal.lower_all-requires-in-loop-table-clause-sound
+lower_all-requires-in-loop-table-clause-sound g c = (settling_more c.loop-table.invariant c.lower_all.ensures.lowered.grown).sound
+
+pub loop-table-preserved : goal.loop-table-preserved
+loop-table-preserved g c =
+    settling_more (settling_more c.loop-table.invariant c.lower_all.ensures.lowered.grown) c.lower_all-in-loop-table.ensures.lowered.grown
+
+pub returns-else-lower_all : goal.returns-else-lower_all
+returns-else-lower_all g c =
+    let form = c.lower_all.ensures.form in
+    turned_leasts g.met.M.Measure.laws (book_kinded _ form) (well_formed (formed _ form)).beyond c.requires
+    (settling_more c.loop-table.invariant c.lower_all.ensures.lowered.grown)
+    c.lower_all-in-loop-table.ensures.lowered
+    c.if-lower_all.false
+
+pub returns-after-loop-table : goal.returns-after-loop-table
+returns-after-loop-table g c =
+    let form = c.lower_all.ensures.form in
+    turned_leasts g.met.M.Measure.laws (book_kinded _ form) (well_formed (formed _ form)).beyond c.requires c.loop-table.invariant
+    c.lower_all.ensures.lowered
+    c.loop-table-test.false

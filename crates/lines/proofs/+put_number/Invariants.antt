@@ -1,5 +1,0 @@
--- `lines::put_number`'s measure: the number.
-use Rattle.lines.proofs.+put_number.Given as goal
-
-abbrev pub decreases-put_number : goal.decreases-put_number
-decreases-put_number l = l.value

@@ -1,9 +1,0 @@
--- `stands::factor_due` meets its contract, by the byte.
-use mathlib.Core.Path.{sym, ◌∙◌}
-use Rattle.stands.proofs.factor_due.Goals as goal
-
-pub returns-then-is_blank : goal.returns-then-is_blank
-returns-then-is_blank c = rw (sym c.is_blank.ensures ∙ c.if-is_blank.true)
-
-pub returns : goal.returns
-returns c = rw (sym c.is_blank.ensures ∙ c.if-is_blank.false) c.begin_factor.ensures

@@ -1,9 +1,0 @@
--- `weights::weight_at` meets its contract: a number of the table, of 32 bits.
-use mathlib.Core.Path.{◌∙◌}
-use Rattle.lengths.proofs.Lowering.{get_d_within}
-use Rattle.weights.specs.Weight.{CAP}
-use Rattle.weights.proofs.weight_at.Goals as goal
-
-pub returns : goal.returns
-returns c =
-    (c.wide.ensures.0 ∙ get_d_within c.args.weights.now c.args.n 0 CAP c.requires, c.wide.ensures.1)
