@@ -17,6 +17,7 @@ use Rattle.book.specs.Form.{judged, DONE, NODE, named, settings_at, nodes_at, co
 use Rattle.book.specs.Form.{sections_of, length_good, contents_good, settings_good, bad_node, form_of, book_of}
 use Rattle.book.specs.declared.Fields.{Fields}
 use Rattle.book.specs.declared.Judged.{Judged}
+use Rattle.book.specs.declared.Node.{Node}
 use Rattle.book.specs.declared.Node.TheVariants.{Fail}
 use Rattle.book.specs.declared.NodeType.{NodeType}
 use Rattle.words.proofs.FirstBad.{first_none}
@@ -121,6 +122,27 @@ good_form bytes done =
 
 pub done_long : (bytes : List ℕ) → form_of bytes ≡ judged DONE 0 → 24 ≤ length bytes
 done_long bytes is = (good_form bytes (ap (λ (j : Judged). j.number) is)).0
+
+-- nodes that are proper for fewer kinds are proper for more
+pub proper_wider : {kinds more count own : ℕ} {x : Node} → kinds ≤ more → Proper kinds count own x → Proper more count own x
+proper_wider le fail_is = fail_is
+proper_wider le empty_is = empty_is
+proper_wider le (token_is {k} below) = token_is {k = k} (omega arith)
+proper_wider le (either_is a b) = either_is a b
+proper_wider le (then_is a b) = then_is a b
+proper_wider le (tagged_is a b) = tagged_is a b
+proper_wider le (ref_is a) = ref_is a
+
+-- the nodes of a book of good form are good for 64 kinds
+pub formed_nodes : (bytes : List ℕ) → (form_of bytes).number ≡ DONE → GoodNodes bytes (nodes_at bytes) (count_of bytes) 64
+formed_nodes bytes done =
+    let f = formed bytes done in
+    record {
+      within = f.good.within;
+      few_nodes = f.good.few_nodes;
+      few_kinds = omega arith;
+      proper = λ n below. proper_wider f.few_kinds (f.good.proper n below);
+    }
 
 -- a book of good form is well-formed
 pub well_formed : {bytes : List ℕ} → Formed bytes → WellFormed (book_of bytes)

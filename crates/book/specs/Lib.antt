@@ -3,3 +3,4 @@ pub mod Decode
 pub mod Encode
 pub mod Errors
 pub mod Form
+pub mod Nodes

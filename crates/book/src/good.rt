@@ -1,9 +1,10 @@
 // A book of good form, as a type whose values are all of good form: contracts see its bytes.
 ghost use Rattle.std.specs.Prelude.{◌≡◌, ◌<◌, ◌≤◌, MatchResult};
-ghost use Rattle.book.specs.Form.{DONE, form_of, book_of, named, settings_at, nodes_at, names_at, judged};
+ghost use Rattle.book.specs.Form.{DONE, form_of, book_of, named, settings_at, nodes_at, count_of, names_at, judged};
+ghost use Rattle.book.specs.Nodes.{placed, node_in};
 ghost use Rattle.book.specs.Errors.{judged_by};
 
-use crate::{BookError, Node, check, count_of, has_names, node_at, settings_at};
+use crate::{BookError, Node, Nodes, check, count_of, has_names, node_at, settings_at};
 use std::marker::Model;
 use words::u16_at;
 
@@ -36,11 +37,20 @@ impl<'a> Book<'a> {
             (λ error. form_of bytes.now ≡ judged_by error) }
     {
         check(bytes)?;
-        Ok(Book {
+        Ok(Book::of(bytes))
+    }
+
+    // The book that bytes known to be of good form are.
+    #[tactic(auto, using(crate::proofs::Decoded::good_form))]
+    pub fn of(bytes: &'a [u8]) -> Book<'a>
+        requires { (form_of bytes.now).number ≡ DONE }
+        ensures { result ≡ bytes.now }
+    {
+        Book {
             bytes,
             settings: settings_at(bytes),
             count: count_of(bytes),
-        })
+        }
     }
 
     // How many nodes it has.
@@ -78,7 +88,17 @@ impl<'a> Book<'a> {
         requires { n < (book_of self.now).count }
         ensures { result ≡ (book_of self.now).node n }
     {
-        node_at(self.bytes, self.settings + 4, n)
+        node_at(self.bytes, self.nodes_at(), n)
+    }
+
+    // Its nodes, which are good ones.
+    #[tactic(auto, using(crate::proofs::Decoded::good_form, crate::proofs::Decoded::formed_nodes), unfolding(crate::specs::Form::book_of))]
+    pub fn nodes(&self) -> Nodes<'a>
+        ensures place { result ≡ placed self.now (nodes_at self.now) (count_of self.now) }
+        ensures count { result.count ≡ (book_of self.now).count }
+        ensures node { node_in result ≡ (book_of self.now).node }
+    {
+        Nodes::of(self.bytes, self.nodes_at(), self.count)
     }
 
     // Its bytes.
@@ -103,11 +123,19 @@ impl<'a> Book<'a> {
         self.settings
     }
 
+    // Where its nodes begin.
+    #[tactic(auto, using(crate::proofs::Decoded::good_form))]
+    pub fn nodes_at(&self) -> usize
+        ensures { result ≡ nodes_at self.now }
+    {
+        self.settings + 4
+    }
+
     // Where its nodes end, and its names begin.
     #[tactic(auto, using(crate::proofs::Decoded::good_form), unfolding(crate::specs::Form::book_of))]
     pub fn names_at(&self) -> usize
         ensures { result ≡ names_at self.now }
     {
-        self.settings + 4 + 6 * self.count
+        self.nodes_at() + 6 * self.count
     }
 }

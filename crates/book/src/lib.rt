@@ -10,10 +10,12 @@ ghost use Rattle.book.specs.Form.{contents_good, settings_good, names_form, form
 ghost use Rattle.book.specs.Errors.{judged_by};
 
 mod good;
+mod nodes;
 
 use forms::contents_are;
 pub use good::Book;
 use names::{NAMES, find_bad};
+pub use nodes::Nodes;
 use words::u16_at;
 
 // A node of a book, by the type table. Bytes that are no node never come past the form test.
@@ -67,21 +69,6 @@ fn type_of(number: usize) -> Option<NodeType>
 }
 
 impl NodeType {
-    // The node of the type with a left and a right.
-    fn node(self, left: usize, right: usize) -> Node
-        ensures { result ≡ typed_node (Some self) left right }
-    {
-        match self {
-            NodeType::Fail => Node::Fail,
-            NodeType::Empty => Node::Empty,
-            NodeType::Token => Node::Token(left),
-            NodeType::Either => Node::Either(left, right),
-            NodeType::Then => Node::Then(left, right),
-            NodeType::Tagged => Node::Tagged(left, right),
-            NodeType::Ref => Node::Ref(left),
-        }
-    }
-
     // Whether fields are those of a node of the type, by the type table: a left and a right that are not used are 0, a
     // kind is below K, a side is a lower node, a label is 1 to 65,535, and a ref's left is any node.
     fn allows(self, f: Fields) -> bool
@@ -97,16 +84,24 @@ impl NodeType {
     }
 }
 
-// The node with a number, in nodes that begin at `base`.
+// The node with a number, in nodes that begin at `base`. Straight by its type's number: by an `Option` of a type, of which no
+// value is none, each look at a node would branch twice (the bar is that of the plan's test in docs/BENCHMARKS.md).
 #[tactic(auto, unfolding(crate::specs::Decode::node_at))]
 pub fn node_at(bytes: &[u8], base: usize, n: usize) -> Node
     requires { base + 6 * n + 6 ≤ length bytes.now }
     ensures { result ≡ node_at bytes.now base n }
 {
     let at = base + 6 * n;
-    match type_of(u16_at(bytes, at)) {
-        Some(of) => of.node(u16_at(bytes, at + 2), u16_at(bytes, at + 4)),
-        None => Node::Fail,
+    let left = u16_at(bytes, at + 2);
+    let right = u16_at(bytes, at + 4);
+    match u16_at(bytes, at) {
+        1 => Node::Empty,
+        2 => Node::Token(left),
+        3 => Node::Either(left, right),
+        4 => Node::Then(left, right),
+        5 => Node::Tagged(left, right),
+        6 => Node::Ref(left),
+        _ => Node::Fail,
     }
 }
 

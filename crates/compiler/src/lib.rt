@@ -88,7 +88,7 @@ fn put_plan(known: &KnownBook, least: &mut [u32], plan: &mut [u8]) -> Result<u32
     if plan.len() < size {
         return Err(CompileError::PlanRoom(size as u32));
     }
-    least_lengths(book, least);
+    least_lengths(&book.nodes(), least);
     write_plan(book, known.table(), least, plan);
     Ok(size as u32)
 }

@@ -1,4 +1,4 @@
-// A drum: its opening, an event, its close, by value.
+// A drum, lent: its opening, an event, its close.
 #![tactic(auto)]
 
 ghost use Rattle.std.specs.Prelude.{◌≡◌, true, ◌≤◌, ◌<◌, length, get_or, eqb, MatchResult};
@@ -254,10 +254,11 @@ fn refuse_event(plan: &Plan, d: &Drum, why: Refusal) -> Reading
     ensures { result ≡ refusal (number_of why) d.now.events (stage_of (parts_of d.now))
         (expected (plan_of plan.now) (nodes_of (parts_of d.now))) }
 {
+    let number = u32::from(why);
     if why.tells_kinds() {
-        return refuse(plan, why, d.events as usize, d.held as usize, &d.slots);
+        return refuse(plan, number, d.events as usize, d.held as usize, &d.slots);
     }
-    answer(u32::from(why), d.events, 0)
+    answer(number, d.events, 0)
 }
 
 // An event for a drum that is open and not stale.

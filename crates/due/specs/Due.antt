@@ -1,5 +1,5 @@
 -- What is due at a record of a tree: by which facts a record may stand there, and what can be looked back at.
-use Rattle.std.specs.Prelude.{ℕ, ◌≤◌, ◌<◌, ◌≡◌, false, not, ◌&&◌, List, [], ◌∷◌, ltb, eqb, length, get_or}
+use Rattle.std.specs.Prelude.{ℕ, ◌≤◌, ◌<◌, ◌≡◌, Bool, true, false, not, ◌&&◌, List, [], ◌∷◌, ltb, eqb, length, get_or}
 use Rattle.words.specs.Words.{Below}
 use Rattle.kinds.specs.Kinds.{has?}
 use Rattle.book.specs.Book.{Book}
@@ -27,6 +27,14 @@ able count table = record { count = count; table = table }
 
 abbrev pub powers_of : Able → Powers
 powers_of a = powers_in a.count a.table
+
+-- whether nothing is due
+abbrev pub is_nothing : Due → Bool
+is_nothing Nothing = true
+is_nothing (Part n) = false
+is_nothing (Taking n) = false
+is_nothing (OneOf l r) = false
+is_nothing (Both l r) = false
 
 -- the nodes whose parts may be due next
 unfoldable pub due_nodes : Due → List ℕ

@@ -3,6 +3,7 @@
 
 ghost use Rattle.std.specs.Prelude.{◌≡◌, ◌<◌, ◌^◌, ◌+◌};
 ghost use Rattle.trees.specs.Back.{right_due, found_at, whole_from};
+ghost use Rattle.due.specs.Due.{is_nothing};
 
 mod past;
 mod powers;
@@ -14,6 +15,13 @@ use trees::Due;
 
 // What is added to a node's number in an empty record.
 pub const EMPTY: usize = 32768;
+
+// Whether nothing is due.
+pub fn is_nothing(due: Due) -> bool
+    ensures { result ≡ is_nothing due }
+{
+    matches!(due, Due::Nothing)
+}
 
 // The right of a then whose left is whole.
 fn right_due(empty: bool, r: usize) -> Due

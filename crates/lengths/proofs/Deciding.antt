@@ -15,12 +15,12 @@ use Rattle.rules.proofs.Growing.{Settling, settling_none, settling_more}
 use Rattle.lengths.specs.Least.{length_at, LeastCut}
 use Rattle.lengths.specs.Measures.{MeasureLaws, length_laws}
 use Rattle.lengths.specs.Falling.{measure_at, measure_by, at_most, SomeAt, NoMore, AllCap, Leasts}
-use Rattle.lengths.proofs.Kinded.{Kinded}
+use Rattle.lengths.proofs.Kinded.{Fitting}
 use Rattle.lengths.proofs.Lowering.{all_cap, caps_sound, kept_closed, visit_lowers, changed_less, turned_leasts}
 use Rattle.lengths.proofs.Lengths.{least_cut}
 
 module _ {cap : ℕ} {token : ℕ → ℕ} {joined : ℕ → ℕ → ℕ} {size : List ℕ → ℕ} (laws : MeasureLaws cap token joined size) (node : ℕ → Node)
-    (kinded : Kinded node) where
+    (fitting : Fitting laws.fits node) where
   -- numbers that are the least measures of all nodes
   pub record LeastTable : Type 0 where
     pub table : List ℕ
@@ -44,7 +44,7 @@ module _ {cap : ℕ} {token : ℕ → ℕ} {joined : ℕ → ℕ → ℕ} {size 
           record {
             after = set table n new;
             changed = true;
-            visited = visit_lowers laws kinded refl is sound inside (omega (arith, is, ltb-true (own (measure_at cap table)) (measure_at cap table n) e));
+            visited = visit_lowers laws fitting refl is sound inside (omega (arith, is, ltb-true (own (measure_at cap table)) (measure_at cap table n) e));
           }
       by new is false e =
           record {
@@ -87,7 +87,7 @@ module _ {cap : ℕ} {token : ℕ → ℕ} {joined : ℕ → ℕ → ℕ} {size 
           → (changed : Bool) → turn.changed ≡ changed → LeastTable
       rested more true e = more turn.after (settling_more settling turn.turning.grown) (changed_less turn.turning.grown e)
       rested more false e =
-          record { table = turn.after; are = turned_leasts laws kinded beyond caps settling (turning_end turn.turning (λ n below. below)) e }
+          record { table = turn.after; are = turned_leasts laws fitting beyond caps settling (turning_end turn.turning (λ n below. below)) e }
 
     -- turns until one changes nothing
     unfoldable pub rest : (left : ℕ) (table : List ℕ) → Settling (at_most cap) (SomeAt cap size node) fresh table → total table ≤ left → LeastTable
@@ -106,8 +106,12 @@ pub record LeastLengths (node : ℕ → Node) : Type 0 where
   pub lengths : List ℕ
   pub are : (n : ℕ) → LeastCut node (node n) 65536 (length_at lengths n)
 
-unfoldable pub least_lengths : (node : ℕ → Node) → Kinded node → (count : ℕ) → ((n : ℕ) → count ≤ n → node n ≡ Fail) → LeastLengths node
-least_lengths node kinded count beyond = lengths_of (least length_laws node kinded count beyond)
+unfoldable pub least_lengths : (node : ℕ → Node) (count : ℕ) → ((n : ℕ) → count ≤ n → node n ≡ Fail) → LeastLengths node
+unfolding length_laws
+least_lengths node count beyond = lengths_of (least length_laws node any count beyond)
   where
-    lengths_of : LeastTable length_laws node kinded → LeastLengths node
+    any : Fitting length_laws.fits node
+    any n = refl
+
+    lengths_of : LeastTable length_laws node any → LeastLengths node
     lengths_of found = record { lengths = found.table; are = least_cut found.are }

@@ -17,7 +17,7 @@ use Rattle.rules.proofs.Growing.{total-set, Settling}
 use Rattle.lengths.specs.Measures.{MeasureLaws}
 use Rattle.lengths.specs.Falling.{measure_at, measure_by, at_most, Some, SomeAt, NoMore, AllCap, Fresh, AllLowered, Leasts}
 use Rattle.lengths.proofs.Cutting.{smaller-left, smaller_right, smaller_one}
-use Rattle.lengths.proofs.Kinded.{Kinded, head_small}
+use Rattle.lengths.proofs.Kinded.{Fitting, head_fits}
 
 -- ---- tables
 
@@ -61,7 +61,7 @@ changed_less grown changed = less (grown.gone_on changed)
 module _ {cap : ℕ} {token : ℕ → ℕ} {joined : ℕ → ℕ → ℕ} {size : List ℕ → ℕ} (laws : MeasureLaws cap token joined size) where
   -- ---- a measure has a run that measures no more
 
-  module _ {node : ℕ → Node} {by : ℕ → ℕ} (kinded : Kinded node) (some : (n : ℕ) → by n < cap → Some size node (node n) (by n)) where
+  module _ {node : ℕ → Node} {by : ℕ → ℕ} (fitting : Fitting laws.fits node) (some : (n : ℕ) → by n < cap → Some size node (node n) (by n)) where
     -- a run of a node that a number has
     some_of : (n k : ℕ) → by n ≤ k → k < cap → Some size node (node n) k
     some_of n k told below =
@@ -88,7 +88,7 @@ module _ {cap : ℕ} {token : ℕ → ℕ} {joined : ℕ → ℕ → ℕ} {size 
           derived = d_then one.derived other.derived;
           small = omega (
             arith,
-            laws.joined_is one.run other.run (head_small kinded (kinded r) other.derived),
+            laws.joined_is one.run other.run (head_fits laws fitting r other.derived),
             laws.grows (size one.run) (size other.run) (by l) (by r) one.small other.small,
             sum,
           );
@@ -100,7 +100,7 @@ module _ {cap : ℕ} {token : ℕ → ℕ} {joined : ℕ → ℕ → ℕ} {size 
 
   -- ---- no run measures less
 
-  module _ {node : ℕ → Node} {count : ℕ} {table : List ℕ} (kinded : Kinded node) (beyond : (n : ℕ) → count ≤ n → node n ≡ Fail)
+  module _ {node : ℕ → Node} {count : ℕ} {table : List ℕ} (fitting : Fitting laws.fits node) (beyond : (n : ℕ) → count ≤ n → node n ≡ Fail)
       (closed : (n : ℕ) → n < count → NoMore cap token joined node table n) where
     -- a node that derives a run is below the count
     deriving_below : (n : ℕ) {run : List ℕ} → Derives node (node n) run → n < count
@@ -131,7 +131,7 @@ module _ {cap : ℕ} {token : ℕ → ℕ} {joined : ℕ → ℕ → ℕ} {size 
           arith,
           smaller-left (joined (measure_at cap table l) (measure_at cap table r)) cap,
           laws.grows (measure_at cap table l) (measure_at cap table r) (size xs) (size ys) left right,
-          laws.joined_is xs ys (head_small kinded (kinded r) e),
+          laws.joined_is xs ys (head_fits laws fitting r e),
         )
     given_none_less (d_tagged {l = l} {xs = xs} d) = closed_at l (size xs) d (given_none_less d)
     given_none_less (d_ref {l = l} {xs = xs} d) = closed_at l (size xs) d (given_none_less d)
@@ -153,7 +153,7 @@ module _ {cap : ℕ} {token : ℕ → ℕ} {joined : ℕ → ℕ → ℕ} {size 
     kept_closed read is no_more = record { no_more = rw (← read) (omega (arith, is, no_more)) }
 
     -- a smaller one takes its place
-    module _ {new : ℕ} {at : Node} (kinded : Kinded node) (read : at ≡ node n) (is : new ≡ measure_by cap token joined at (measure_at cap table))
+    module _ {new : ℕ} {at : Node} (fitting : Fitting laws.fits node) (read : at ≡ node n) (is : new ≡ measure_by cap token joined at (measure_at cap table))
         (sound : Sound (at_most cap) (SomeAt cap size node) table) (inside : n < length table) (less : new < measure_at cap table n) where
       own : (i : ℕ) → measure_at cap table i < cap → Some size node (node i) (measure_at cap table i)
       own i below = (sound.by i (measure_at cap table i) (omega arith)).some below
@@ -173,7 +173,7 @@ module _ {cap : ℕ} {token : ℕ → ℕ} {joined : ℕ → ℕ → ℕ} {size 
       adds : (m k : ℕ) → Dec (m ≡ n) → measure_at cap (set table n new) m ≤ k → (measure_at cap table m ≤ k) ⊎ SomeAt cap size node m k
       adds m k (yes e) told =
           let after : new ≤ k = rw (e, here) at told in
-          inr (record { some = λ below. rw e (rw (sym read) (has_run kinded own at k (rw is at after) below)) })
+          inr (record { some = λ below. rw e (rw (sym read) (has_run fitting own at k (rw is at after) below)) })
       adds m k (no f) told = inl (rw (other m f) at told)
 
       pub visit_lowers : Visited (at_most cap) (SomeAt cap size node) (NoMore cap token joined node) n table (set table n new) true
@@ -194,8 +194,8 @@ module _ {cap : ℕ} {token : ℕ → ℕ} {joined : ℕ → ℕ → ℕ} {size 
 
   -- after a turn over measures that fell from the cap, each with a run that measures no more, which changed nothing, they are the least
   pub turned_leasts : {node : ℕ → Node} {count : ℕ} {fresh before after : List ℕ} {changed : Bool}
-      → Kinded node → ((n : ℕ) → count ≤ n → node n ≡ Fail) → AllCap cap count fresh → Settling (at_most cap) (SomeAt cap size node) fresh before
+      → Fitting laws.fits node → ((n : ℕ) → count ≤ n → node n ≡ Fail) → AllCap cap count fresh → Settling (at_most cap) (SomeAt cap size node) fresh before
       → AllLowered cap token joined size node count before after changed → changed ≡ false → Leasts cap size node after
-  turned_leasts {node} {count} {fresh} {before} kinded beyond caps settling turned unchanged =
+  turned_leasts {node} {count} {fresh} {before} fitting beyond caps settling turned unchanged =
       rw (turned.grown.still unchanged)
-      (leasts_are kinded beyond (turned.closed unchanged) settling.sound (λ n. settling.keeps n cap (omega (arith, caps.caps n))))
+      (leasts_are fitting beyond (turned.closed unchanged) settling.sound (λ n. settling.keeps n cap (omega (arith, caps.caps n))))

@@ -1,5 +1,5 @@
 -- What a measure of runs has to meet, for the least measures of the runs that nodes derive to be found by their sides.
-use Rattle.std.specs.Prelude.{ℕ, ◌+◌, ◌≤◌, ◌<◌, ◌≡◌, List, [], ◌∷◌, ◌++◌, length, get_or, refl}
+use Rattle.std.specs.Prelude.{ℕ, ◌+◌, ◌≤◌, ◌<◌, ◌≡◌, Bool, true, List, [], ◌∷◌, ◌++◌, length, get_or, refl}
 use native.Mathlib.Omega.{arith}
 use lib.ListN.{length-append}
 
@@ -8,17 +8,22 @@ pub record MeasureLaws (cap : ℕ) (token : ℕ → ℕ) (joined : ℕ → ℕ �
   -- the empty run measures nothing, and a run of one kind what its kind does
   pub empty_is : size [] ≡ 0
   pub token_is : (k : ℕ) → size (k ∷ []) ≡ token k
-  -- a run followed by another, of a kind below 64 at its head, measures what the two come to
-  pub joined_is : (xs ys : List ℕ) → get_or ys 0 0 < 64 → size (xs ++ ys) ≡ joined (size xs) (size ys)
+  -- the kinds that it can tell at the head of a run: all below 64, and it may be more
+  pub fits : ℕ → Bool
+  pub kinds_fit : (k : ℕ) → k < 64 → fits k ≡ true
+  -- a run followed by another, of such a kind at its head, measures what the two come to
+  pub joined_is : (xs ys : List ℕ) → fits (get_or ys 0 0) ≡ true → size (xs ++ ys) ≡ joined (size xs) (size ys)
   -- which grows with both, and is below the cap only where both are
   pub grows : (a b c d : ℕ) → a ≤ c → b ≤ d → joined a b ≤ joined c d
   pub below : (a b : ℕ) → joined a b < cap → (a < cap) × (b < cap)
 
--- the length of a run, cut at 65,536
-pub length_laws : MeasureLaws 65536 (λ kind. 1) (λ one other. one + other) length
+-- the length of a run, cut at 65,536, whatever its kinds
+unfoldable pub length_laws : MeasureLaws 65536 (λ kind. 1) (λ one other. one + other) length
 length_laws = record {
   empty_is = refl;
   token_is = λ k. refl;
+  fits = λ k. true;
+  kinds_fit = λ k below. refl;
   joined_is = λ xs ys kind. length-append xs ys;
   grows = λ a b c d one other. omega (arith, one, other);
   below = λ a b under. (omega (arith, under), omega (arith, under));

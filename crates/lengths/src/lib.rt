@@ -1,23 +1,23 @@
-// The least measures of the runs that a book's nodes derive, cut: one function for any measure that can be told by a
+// The least measures of the runs that good nodes derive, cut: one function for any measure that can be told by a
 // node's sides. The length of a run, cut at 65,536, is one.
 #![tactic(auto)]
 
 ghost use Rattle.std.specs.Prelude.{◌≡◌, true, ◌+◌, ◌*◌, ◌≤◌, ◌<◌, ℕ, List, length};
-ghost use Rattle.book.specs.Form.{DONE, form_of, book_of};
+ghost use Rattle.book.specs.Nodes.{node_in, AreGood};
 ghost use Rattle.rules.specs.Growth.{Sound};
 ghost use Rattle.rules.specs.Order.{Order};
 ghost use Rattle.rules.specs.Step.{left_from, right_from, kind_of};
 ghost use Rattle.lengths.specs.Least.{length_at, Lengths};
 ghost use Rattle.lengths.specs.Measures.{MeasureLaws, length_laws};
-ghost use Rattle.lengths.specs.Falling.{measure_at, measure_by, at_most, SomeAt, AllCap, Fresh, AllLowered, Leasts};
+ghost use Rattle.lengths.specs.Falling.{smaller, measure_at, measure_by, at_most, SomeAt, AllCap, Fresh, AllLowered, Leasts};
 
-use book::{Book, Node};
+use book::{Node, Nodes};
 use rules::{downward, upward};
 
 // Where lengths are cut: a run as long, or none, has this number.
 pub const CAP: u32 = 65536;
 
-// A measure of runs, of which a book's nodes have the least, cut.
+// A measure of runs, of which good nodes have the least, cut.
 pub trait Measure {
     // Where it is cut: a run that measures as much, or none, has this number.
     ghost CAP: { ℕ };
@@ -42,6 +42,13 @@ pub trait Measure {
     ghost laws: { MeasureLaws CAP token joined size };
 }
 
+// The smaller of two numbers.
+pub fn smaller(one: usize, other: usize) -> usize
+    ensures { result ≡ smaller one other }
+{
+    one.min(other)
+}
+
 // The measure that stands in the table for a node.
 fn measure_at(table: &[u32], n: usize) -> usize
     requires { n < length table.now }
@@ -61,8 +68,9 @@ fn measure_by<M: Measure>(node: Node, table: &[u32]) -> usize
         Node::Fail => M::CAP as usize,
         Node::Empty => 0,
         Node::Token(k) => M::token(k),
-        Node::Either(l, r) => measure_at(table, l).min(measure_at(table, r)),
-        Node::Then(l, r) => M::joined(measure_at(table, l), measure_at(table, r)).min(
+        Node::Either(l, r) => smaller(measure_at(table, l), measure_at(table, r)),
+        Node::Then(l, r) => smaller(
+            M::joined(measure_at(table, l), measure_at(table, r)),
             M::CAP as usize,
         ),
         Node::Tagged(l, _) | Node::Ref(l) => measure_at(table, l),
@@ -72,22 +80,23 @@ fn measure_by<M: Measure>(node: Node, table: &[u32]) -> usize
 // Lowers the measure of every node to that by its left and right, in an order, by the node of each step. Whether any
 // fell.
 fn lower_all<M: Measure, F: Fn(usize, usize) -> usize>(
-    book: &Book,
+    nodes: &Nodes,
     order: F,
     table: &mut [u32],
 ) -> bool
-    requires order { Order (F.pre order) (F.post order) (book_of book.now).count }
-    requires count_in_bounds { (book_of book.now).count ≤ length table.old }
-    requires sound { Sound (at_most M.CAP) (SomeAt M.CAP M.size (book_of book.now).node) table.old }
-    ensures form { (form_of book.now).number ≡ DONE }
-    ensures lowered { AllLowered M.CAP M.token M.joined M.size (book_of book.now).node (book_of book.now).count
+    requires order { Order (F.pre order) (F.post order) nodes.now.count }
+    requires count_in_bounds { nodes.now.count ≤ length table.old }
+    requires sound { Sound (at_most M.CAP) (SomeAt M.CAP M.size (node_in nodes.now)) table.old }
+    ensures good { AreGood nodes.now }
+    ensures lowered { AllLowered M.CAP M.token M.joined M.size (node_in nodes.now) nodes.now.count
         table.old table.new result }
 {
     let mut changed = false;
-    let count = book.count();
+    let count = nodes.count();
+    let own = nodes.own();
     for step in 0..count {
         let n = order(count, step);
-        let new = measure_by::<M>(book.node(n), table);
+        let new = measure_by::<M>(own.node(n), table);
         if new < measure_at(table, n) {
             table[n] = new as u32;
             changed = true;
@@ -98,11 +107,11 @@ fn lower_all<M: Measure, F: Fn(usize, usize) -> usize>(
 
 // Fills the table, all at the cap before, with the least measures: turns upward and downward by turns, until one changes
 // nothing. All but refs have lower sides, so that upward comes first; chains of refs upward settle in a turn downward.
-pub fn least<M: Measure>(book: &Book, table: &mut [u32])
-    requires { AllCap M.CAP (book_of book.now).count table.old }
-    ensures { Leasts M.CAP M.size (book_of book.now).node table.new }
+pub fn least<M: Measure>(nodes: &Nodes, table: &mut [u32])
+    requires { AllCap M.CAP nodes.now.count table.old }
+    ensures { Leasts M.CAP M.size (node_in nodes.now) table.new }
 {
-    while lower_all::<M, _>(book, upward, table) && lower_all::<M, _>(book, downward, table) {}
+    while lower_all::<M, _>(nodes, upward, table) && lower_all::<M, _>(nodes, downward, table) {}
 }
 
 // The length of a run.
@@ -139,9 +148,9 @@ pub fn length_at(lengths: &[u32], n: usize) -> usize
 }
 
 // Fills the table, all at the cap before, with the least lengths.
-pub fn least_lengths(book: &Book, lengths: &mut [u32])
-    requires { Fresh (book_of book.now).count lengths.old }
-    ensures { Lengths (book_of book.now).node (book_of book.now).count lengths.new }
+pub fn least_lengths(nodes: &Nodes, lengths: &mut [u32])
+    requires { Fresh nodes.now.count lengths.old }
+    ensures { Lengths (node_in nodes.now) nodes.now.count lengths.new }
 {
-    least::<Length>(book, lengths);
+    least::<Length>(nodes, lengths);
 }

@@ -101,6 +101,9 @@ module _ {input book run plan : List ℕ} {room : ℕ} {answer : Compiled} (p : 
       → Lists input (reading_lines (length run) (read_of (take answer.size plan) run slot_room tree_room))
   run_listed good = rw p.run_is (run_read p.whole (rw (p.book_is, held) at made) good)
 
-  -- a plan is within its room
-  pub compiled_within : answer.number ≡ DONE → answer.size ≤ room
-  compiled_within is = rw (passed_size made is) (passed made is).fits
+-- a plan is within its room
+pub compiled_within : {bytes : List ℕ} {room : ℕ} {answer : Compiled} {plan : List ℕ}
+    → Compiles bytes room answer plan
+    → answer.number ≡ DONE
+    → answer.size ≤ room
+compiled_within made is = rw (passed_size made is) (passed made is).fits

@@ -76,6 +76,7 @@ impl<'a> Input<'a> {
 }
 
 // Adds the line of a book that is refused; the answer is that of the C interface, so refusals are numbers.
+#[tactic(auto, unfolding(crate::specs::Listing::compiled_line))]
 fn add_compiled(page: &mut Page, answer: Compiled)
     ensures added { Added page.old page.new (compiled_line answer) }
     ensures short { length (compiled_line answer) ≤ conflict_room }

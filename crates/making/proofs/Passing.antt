@@ -124,6 +124,7 @@ module _ {text : List ℕ} {first : Rule} {further : List Rule} {d : Down} (read
         few_kinds = omega (arith, many_is, well_formed.few_kinds);
         small = largest_below (omega arith) (behind small_body);
         short = rw names_are (lengths_upto 16 (kind_names rules) (λ n below. ((text_words 0 text read).kinds n below).few_letters));
+        some_letter = rw names_are (λ n below. ((text_words 0 text read).kinds n below).some_letter);
       }
     where
       behind : {k : ℕ} {more : List ℕ} → Below 65536 (k ∷ more) → Below 65536 more

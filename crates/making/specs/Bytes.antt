@@ -48,13 +48,14 @@ module _ (d : Down) where
       ++ (length d.kinds ∷ last_of d.rows 0 ∷ nodes_words))
       ++ names_bytes names_down
 
-  -- there is a rule, nodes and kinds are few, all numbers take 16 bits, and all names are short
+  -- there is a rule, nodes and kinds are few, all numbers take 16 bits, and each name has 1 to 16 letters
   pub record Writable : Type 0 where
     pub few_nodes : length d.nodes ≤ 512
     pub some_rule : 1 ≤ length d.rows
     pub few_kinds : length d.kinds ≤ 64
     pub small : largest (last_of d.rows 0 ∷ nodes_words) < 65536
     pub short : largest (map length names_down) ≤ 16
+    pub some_letter : (k : ℕ) → k < length names_down → 1 ≤ length (get_or names_down k [])
 
   -- the place of the text from which a node comes, or 4 with the number of nodes
   unfoldable pub place_down : ℕ → Written

@@ -1,4 +1,4 @@
-// What is put down of a sheet that passes, as a type all of whose values can be written as a book.
+// What is put down of a sheet that passes, as a type all of whose values have numbers and names that a book can hold.
 ghost use Rattle.std.specs.Prelude.{◌≡◌, ◌∷◌, cond, ltb, ◌+◌, ◌*◌, ◌≤◌, ◌<◌, length, get_or};
 ghost use Rattle.std.proofs.lemmas.List.Edits.{sets};
 ghost use Rattle.words.specs.Words.{word_bytes, zeros};
@@ -15,7 +15,7 @@ use forms::{contents_size, put_contents};
 use outline::{RawNode, Row};
 use resolving::{resolve, word_at};
 use std::marker::Model;
-use words::put_u16;
+use words::{copy_bytes, put_u16};
 use written::{OUT_ROOM, Written, refuse};
 
 // A sheet's text, and its nodes, rules and kinds as they are put down.
@@ -69,7 +69,7 @@ fn put_name(name: &[u8], book: &mut [u8], at: usize)
     ensures { book.new ≡ sets book.old at (length name.now ∷ name.now) }
 {
     book[at] = name.len() as u8;
-    book[at + 1..at + 1 + name.len()].copy_from_slice(name);
+    copy_bytes(name, 0, book, at + 1, name.len());
 }
 
 // Writes the contents of a book with so many nodes, whose names take so many bytes.

@@ -1,16 +1,15 @@
 -- The bytes that the moves write: sections laid one behind the other into zeros are a book's bytes, with names or without.
-use borrow.Rule.Slice.PartMut.{put_mid}
 use mathlib.Core.Path.{◌≡◌, refl, sym, ap, ◌∙◌}
 use mathlib.Core.Bool.{true}
 use mathlib.Core.List.{List, [], ◌++◌, append-nil}
 use Prim.Native.Nat.{ℕ, ◌+◌, ◌*◌, ◌≤◌}
 use native.Mathlib.Omega.{arith}
-use lib.ListN.{length, take, drop, length-append, length-drop, length-replicate}
-use lib.Seq.{sets, length-sets, take_at}
+use lib.ListN.{length, take, drop, length-append, length-drop}
+use lib.Seq.{sets, take_at}
 use Rattle.words.specs.Lists.{part_at}
 use Rattle.words.specs.Words.{word_bytes, Below, zeros}
 use Rattle.words.proofs.Bytes.{length_words}
-use Rattle.words.proofs.Stored.{sets_then, sets-zeros, copied_whole}
+use Rattle.words.proofs.Stored.{sets_then, sets-zeros}
 use Rattle.forms.specs.Forms.{contents_size, contents_of}
 use Rattle.forms.proofs.Contents.{length_contents}
 use Rattle.names.specs.Names.{HOUSE-NAMES, name_at, names_bytes}
@@ -86,27 +85,21 @@ module _ (bytes : List ℕ) (done : (form_of bytes).number ≡ DONE) where
         ∙ length-append contents (body ++ rest)
         ∙ omega (arith, contents_long, length-append body rest, body_size)
 
-    pub book_laid : (room : ℕ) {at end k j : ℕ} {clear first part second other : List ℕ} → clear ≡ zeros room
-        → at ≡ contents_size (length sizes) → end ≡ at + length body → end + length rest ≤ room → k ≡ length body → j ≡ length rest
-        → first ≡ sets clear 0 contents → part ≡ body → second ≡ put_mid at k first part → other ≡ rest
-        → put_mid end j second other ≡ with_zeros (laid_of bytes sizes rest) room
-    book_laid room {at} {end} {k} {j} {first = first} {second = second} is at_is end_is fits k_is j_is first_is part_is second_is other_is =
-        (λ i. put_mid end j (second_laid i) (other_is i))
-        ∙ copied_whole _ end j rest j_is (omega (arith, fits, j_is, length-sets (sets (zeros room) 0 contents) at body, long))
+    pub book_laid : (room : ℕ) {at end : ℕ} {clear first part second other : List ℕ} → clear ≡ zeros room
+        → at ≡ contents_size (length sizes) → end ≡ at + length body → end + length rest ≤ room
+        → first ≡ sets clear 0 contents → part ≡ body → second ≡ sets first at part → other ≡ rest
+        → sets second end other ≡ with_zeros (laid_of bytes sizes rest) room
+    book_laid room {at} {end} {first = first} {second = second} is at_is end_is fits first_is part_is second_is other_is =
+        (λ i. sets (second_laid i) end (other_is i))
         ∙ three_laid room contents body rest at end (at_is ∙ sym contents_long) end_is
         (omega (arith, fits, end_is, at_is, ap length laid_parts, laid_long, body_size))
         ∙ ap (λ (l : List ℕ). with_zeros l room) (sym laid_parts)
       where
-        long : length (sets (zeros room) 0 contents) ≡ room
-        long = length-sets (zeros room) 0 contents ∙ length-replicate room 0
-
         first_laid : first ≡ sets (zeros room) 0 contents
         first_laid = first_is ∙ ap (λ (l : List ℕ). sets l 0 contents) is
 
         second_laid : second ≡ sets (sets (zeros room) 0 contents) at body
-        second_laid =
-            second_is ∙ (λ i. put_mid at k (first_laid i) (part_is i))
-            ∙ copied_whole _ at k body k_is (omega (arith, fits, end_is, k_is, long))
+        second_laid = second_is ∙ (λ i. sets (first_laid i) at (part_is i))
 
   pub plain_laid : laid_of bytes (book_sections count) [] ≡ plain_of bytes
   unfolding book_bytes

@@ -16,6 +16,7 @@ ghost use Rattle.moves.specs.Look.{source_of, kind_name, part_of, name_part};
 use book::{Book, BookError, DONE, Judged, has_names};
 use forms::put_contents;
 use names::{HOUSE_NAMES, NAMES, find_bad, name_at};
+use words::copy_bytes;
 use written::{OUT_ROOM, Written, refuse};
 
 // The answer's number: moving back would lose names.
@@ -113,8 +114,8 @@ fn write_book(book: &Book, sizes: &[usize], names: &[u8], out: &mut [u8]) -> Res
     }
     out.fill(0);
     put_contents(out, sizes);
-    out[at..end].copy_from_slice(body);
-    out[end..size].copy_from_slice(names);
+    copy_bytes(body, 0, out, at, body.len());
+    copy_bytes(names, 0, out, end, names.len());
     Ok(size as u32)
 }
 

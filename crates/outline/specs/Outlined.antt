@@ -32,7 +32,7 @@ module _ (text : List ℕ) where
     pub wrong : (rules : List Rule) → GoesWrong text at (name_due rules) place
 
   -- a whole sheet is read: its rules, with their nodes and rows put down where they are not too many and the buffers hold
-  -- the most; the buffers keep their lengths
+  -- the most
   pub record OutlinedAs (nodes : List RawNode) (rows : List Row) (r : Outline) (nodes' : List RawNode) (rows' : List Row)
       : Type 0 where
     pub rules : List Rule

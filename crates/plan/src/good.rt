@@ -6,8 +6,8 @@ ghost use Rattle.plan.specs.Form.{plan_of, plan_count, plan_kinds, plan_judged, 
 ghost use Rattle.plan.specs.Errors.{judged_by, move_by};
 
 use crate::{
-    PLAN_NODES_AT, PLAN_SETTINGS_AT, PlanError, Step, check_cells, plan_count, plan_good,
-    plan_kinds, step_of,
+    PLAN_NODES_AT, PlanError, Step, check_cells, plan_count, plan_good, plan_kinds, plan_start,
+    step_of,
 };
 use std::marker::Model;
 use words::u16_at;
@@ -56,6 +56,19 @@ impl<'a> Plan<'a> {
         })
     }
 
+    // The plan that bytes known to be judged done are.
+    #[tactic(auto, using(crate::proofs::Runnable::settings_inside))]
+    pub fn of(bytes: &'a [u8]) -> Plan<'a>
+        requires { (plan_judged bytes.now).number ≡ DONE }
+        ensures { result ≡ bytes.now }
+    {
+        Plan {
+            bytes,
+            nodes: plan_count(bytes),
+            kinds: plan_kinds(bytes),
+        }
+    }
+
     // The same plan as a value of its own: what a loop reads of it stays in registers, whatever the loop writes.
     #[inline(always)]
     pub fn own(&self) -> Plan<'a>
@@ -93,12 +106,12 @@ impl<'a> Plan<'a> {
         ensures below { result < plan_count self.now }
         ensures few { result < 512 }
     {
-        u16_at(self.bytes, PLAN_SETTINGS_AT + 2)
+        plan_start(self.bytes)
     }
 
-    // The cell of a node's row in a column.
+    // The cell of a node's row in a column; the last column has the row's nullable mark.
     #[inline(always)]
-    fn cell(&self, node: usize, column: usize) -> u8
+    pub fn cell_at(&self, node: usize, column: usize) -> u8
         requires { (node < plan_count self.now) × (column ≤ plan_kinds self.now) }
         ensures { result ≡ (plan_of self.now).cell node column }
     {
@@ -110,7 +123,7 @@ impl<'a> Plan<'a> {
         requires { (node < plan_count self.now) × (kind < plan_kinds self.now) }
         ensures { result ≡ not (eqb ((plan_of self.now).cell node kind) 0) }
     {
-        self.cell(node, kind) != 0
+        self.cell_at(node, kind) != 0
     }
 
     // What a node's cell for a kind says of a walk.
@@ -119,7 +132,7 @@ impl<'a> Plan<'a> {
         requires { (node < plan_count self.now) × (kind < plan_kinds self.now) }
         ensures { move_by result ≡ move_of ((plan_of self.now).cell node kind) }
     {
-        step_of(self.cell(node, kind))
+        step_of(self.cell_at(node, kind))
     }
 
     // Whether a node is nullable, by its row.
@@ -128,7 +141,7 @@ impl<'a> Plan<'a> {
         ensures null { result ≡ (plan_of self.now).null node }
         ensures few { node < 512 }
     {
-        self.cell(node, self.kinds) == 1
+        self.cell_at(node, self.kinds) == 1
     }
 
     // How many events are due for a node, by its number in the fourth section.

@@ -6,7 +6,7 @@ ghost use Rattle.forms.specs.Forms.{contents_are};
 ghost use Rattle.book.specs.Form.{DONE, judged};
 ghost use Rattle.running.specs.Running.{move_of};
 ghost use Rattle.plan.specs.Form.{plan_sections, plan_size, size_good, plan_good, cells_judged};
-ghost use Rattle.plan.specs.Form.{plan_nodes_at, plan_count, plan_kinds};
+ghost use Rattle.plan.specs.Form.{plan_nodes_at, plan_count, plan_kinds, plan_start};
 ghost use Rattle.plan.specs.Rows.{one_cell, other_cell, bad_column};
 ghost use Rattle.plan.specs.Errors.{judged_by, move_by};
 
@@ -76,7 +76,7 @@ fn step_of(cell: u8) -> Step
 }
 
 // How many nodes a plan has, by the length of its nodes.
-fn plan_count(plan: &[u8]) -> usize
+pub fn plan_count(plan: &[u8]) -> usize
     requires { plan_nodes_at ≤ length plan.now }
     ensures { (result ≡ plan_count plan.now) × (result < 65536) }
 {
@@ -84,11 +84,19 @@ fn plan_count(plan: &[u8]) -> usize
 }
 
 // How many kinds a plan has, by its settings.
-fn plan_kinds(plan: &[u8]) -> usize
+pub fn plan_kinds(plan: &[u8]) -> usize
     requires { plan_nodes_at ≤ length plan.now }
     ensures { (result ≡ plan_kinds plan.now) × (result < 65536) }
 {
     u16_at(plan, PLAN_SETTINGS_AT)
+}
+
+// A plan's start, by its settings.
+pub fn plan_start(plan: &[u8]) -> usize
+    requires { plan_nodes_at ≤ length plan.now }
+    ensures { (result ≡ plan_start plan.now) × (result < 65536) }
+{
+    u16_at(plan, PLAN_SETTINGS_AT + 2)
 }
 
 // The lower cell for kinds that a node's type has beside 0; 0 where it has none.

@@ -2,14 +2,14 @@
 use Prim.Native.Nat.{ℕ, suc, ◌+◌, ◌-◌, ◌≤◌, min}
 use borrow.Rule.Slice.PartMut.{put_mid}
 use native.Mathlib.Omega.{arith}
-use native.Mathlib.Numerals.{add-one}
 use mathlib.Core.Path.{◌≡◌, refl, sym, ap, ◌∙◌}
 use mathlib.Core.Bool.{Bool, true, false}
 use mathlib.Core.List.{List, [], ◌∷◌, ◌++◌}
 use lib.Dec.{leb}
-use lib.ListN.{length, take, drop, length-append, take-append-drop, drop_of_length-le, replicate-append-replicate}
+use lib.ListN.{length, take, drop, replicate, length-append, length-drop, take-append-drop, drop_of_length-le}
 use lib.Seq.{sets, paste, length-sets, sets-eq, set_out, take_all, length-take-le}
 use borrow.Author.Tests.{leb-true, leb-false}
+use Rattle.std.proofs.lemmas.List.{length-replicate, take-replicate}
 use Rattle.std.proofs.lemmas.Slice.{put_mid-paste}
 use Rattle.words.proofs.Stored.{sets-append}
 use Rattle.prints.specs.declared.Page.{Page}
@@ -74,6 +74,21 @@ adds_clipped out at bytes from size {put} from_is size_is is =
         let long : length (take size bytes) ≡ size = length-take-le size bytes (omega arith) in
         rw (sets-eq (take size bytes) out from (omega (arith, long)), long, take_all size (take size bytes) (omega (arith, long)))
 
+-- as many spaces as have room
+pub spaces_clipped : (out : List ℕ) (at count from size : ℕ) {put : List ℕ}
+    → from ≡ min at (length out)
+    → size ≡ min count (length out - from)
+    → put ≡ replicate (length (take (from + size - from) (drop from out))) 32
+    → Adds out (put_mid from (from + size - from) out put) at (from + size) (spaces count)
+spaces_clipped out at count from size from_is size_is is =
+    adds_clipped out at (spaces count) from size from_is (rw length-replicate size_is)
+    (is ∙ rw long (sym (take-replicate size count 32 (omega arith))))
+  where
+    long : length (take (from + size - from) (drop from out)) ≡ size
+    long =
+        let same : from + size - from ≡ size = omega arith in
+        rw same (length-take-le size (drop from out) (rw length-drop (omega arith)))
+
 module _ {out mid : List ℕ} {at next : ℕ} {xs : List ℕ} (p : Adds out mid at next xs) where
   pub adds_length : length mid ≡ length out
   adds_length = ap length p.is ∙ length-sets out at xs
@@ -115,10 +130,3 @@ added_none page = record { same = refl; adds = adds_none _ _ }
 -- bytes after bytes
 pub added_then : {page mid end : Page} {xs ys : List ℕ} → Added page mid xs → Added mid end ys → Added page end (xs ++ ys)
 added_then p q = record { same = q.same ∙ p.same; adds = adds_then p.adds q.adds }
-
--- one space more
-pub added_space : {page mid end : Page} (i : ℕ)
-    → Added page mid (spaces i)
-    → Added mid end (32 ∷ [])
-    → Added page end (spaces (i + 1))
-added_space i p q = rw (add-one i) (rw (replicate-append-replicate {A = ℕ} i 1 32, add-one i) at (added_then p q))

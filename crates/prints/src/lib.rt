@@ -21,7 +21,16 @@ impl<'a> Page<'a> {
         ensures was { result.out.now ≡ out.old }
         ensures blank { result.at ≡ 0 }
     {
-        Page { out, at: 0 }
+        Page::from(out, 0)
+    }
+
+    // A page of which so much is written; beyond the buffer's end nothing can be added.
+    pub fn from(out: &'a mut [u8], at: usize) -> Page<'a>
+        ensures same { result.out.ghost_name ≡ out.entry.ghost_name }
+        ensures was { result.out.now ≡ out.old }
+        ensures written { result.at ≡ at }
+    {
+        Page { out, at }
     }
 
     // How much is written.
@@ -31,15 +40,21 @@ impl<'a> Page<'a> {
         self.at
     }
 
-    // Adds bytes.
+    // Adds bytes. Where all have room they are copied by their own length: a short text then takes no call.
+    #[inline(always)]
     pub fn add(&mut self, bytes: &[u8])
         ensures { Added self.old self.new bytes.now }
     {
         let Page { out, at } = self;
         let from = (*at).min(out.len());
-        let size = bytes.len().min(out.len() - from);
-        out[from..from + size].copy_from_slice(&bytes[..size]);
-        *at = from + size;
+        let room = out.len() - from;
+        if bytes.len() <= room {
+            out[from..from + bytes.len()].copy_from_slice(bytes);
+            *at = from + bytes.len();
+        } else {
+            out[from..from + room].copy_from_slice(&bytes[..room]);
+            *at = from + room;
+        }
     }
 
     // Adds bytes where a test holds, else none.
@@ -73,9 +88,11 @@ impl<'a> Page<'a> {
     pub fn add_spaces(&mut self, count: usize)
         ensures { Added self.old self.new (spaces count) }
     {
-        for _i in 0..count {
-            self.add(&[b' ']);
-        }
+        let Page { out, at } = self;
+        let from = (*at).min(out.len());
+        let end = from + count.min(out.len() - from);
+        out[from..end].fill(b' ');
+        *at = end;
     }
 
     // Adds something for each number below a count.

@@ -3,6 +3,7 @@
 
 ghost use Rattle.std.specs.Prelude.{◌≡◌, ◌+◌, ◌≤◌, ◌<◌, length, MatchResult};
 ghost use Rattle.book.specs.Form.{DONE, book_of};
+ghost use Rattle.rules.specs.Facts.{flat};
 ghost use Rattle.rules.specs.Growth.{Blank, Sound};
 ghost use Rattle.verdict.specs.Judges.{judgement, Judges};
 ghost use Rattle.profile.specs.Weights.{weighing, one_more, side_at, then_weight, weight_by};
@@ -11,7 +12,7 @@ ghost use Rattle.profile.specs.Profiles.{depth, Measures, Profiles};
 ghost use Rattle.profile.specs.Errors.{refused_book, depth_by};
 
 use book::{DONE, Node};
-use rules::NodeFacts;
+use rules::{NodeFacts, facts_at};
 use verdict::{KnownBook, Refusal, Verdict};
 
 // The answers' numbers, after the book's own; SLOTS before them all.
@@ -92,14 +93,14 @@ fn one_more(x: u32) -> u32
     if (1..MOST).contains(&x) { x + 1 } else { x }
 }
 
-// What is known of a node, and stands among the weights.
-fn side_at(known: &KnownBook, weights: &[u32], n: usize) -> Side
-    requires n_lt_count { n < (book_of known.now.bytes).count }
+// What stands in the table and among the weights for a node.
+fn side_at(table: &[NodeFacts], weights: &[u32], n: usize) -> Side
+    requires n_in_table { n < length table.now }
     requires n_in_bounds { n < length weights.now }
-    ensures { result ≡ side_at known.now.table weights.now n }
+    ensures { result ≡ side_at (flat table.now) weights.now n }
 {
     Side {
-        makes: kinds::has(known.facts(n).productive, 0),
+        makes: kinds::has(facts_at(table, n).productive, 0),
         weight: weights[n],
     }
 }
@@ -121,11 +122,13 @@ fn then_weight(left: Side, right: Side) -> u32
 fn weight_by(node: Node, left: Side, right: Side) -> u32
     ensures { result ≡ weight_by node left right }
 {
+    let either = left.weight.max(right.weight);
+    let both = then_weight(left, right);
     match node {
         Node::Fail | Node::Empty => 0,
         Node::Token(_) => 1,
-        Node::Either(_, _) => left.weight.max(right.weight),
-        Node::Then(_, _) => then_weight(left, right),
+        Node::Either(_, _) => either,
+        Node::Then(_, _) => both,
         Node::Tagged(_, _) | Node::Ref(_) => left.weight,
     }
 }
@@ -149,11 +152,13 @@ fn raise_all(known: &KnownBook, weights: &mut [u32]) -> bool
         weights.old weights.new result }
 {
     let book = known.book();
+    let nodes = book.nodes();
+    let table = known.table();
     let mut changed = false;
     for n in 0..book.count() {
-        let node = book.node(n);
-        let left = side_at(known, weights, rules::left_from(n, node));
-        let right = side_at(known, weights, rules::right_from(n, node));
+        let node = nodes.node(n);
+        let left = side_at(table, weights, rules::left_from(n, node));
+        let right = side_at(table, weights, rules::right_from(n, node));
         changed = changed | raise(weights, n, weight_by(node, left, right));
     }
     changed

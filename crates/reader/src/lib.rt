@@ -61,12 +61,19 @@ pub enum Refusal {
     Runaway,
 }
 
+// Whether a refusal with a number tells what was expected: 12, 13 and 14 do.
+pub fn tells_kinds(number: u32) -> bool
+    ensures { result ≡ tells number }
+{
+    UNKNOWN <= number && number <= END
+}
+
 impl Refusal {
-    // Whether it tells what was expected: 12, 13 and 14 do.
+    // Whether it tells what was expected, by its number.
     pub fn tells_kinds(self) -> bool
         ensures { result ≡ tells (number_of self) }
     {
-        !matches!(self, Refusal::Deep | Refusal::Runaway)
+        tells_kinds(u32::from(self))
     }
 }
 
@@ -374,14 +381,14 @@ fn expected_by(plan: &Plan, count: usize, held: &[u32]) -> u64
 }
 
 // A refusal at a place that tells the stage and what was expected, by the parts held before anything was taken off.
-pub fn refuse(plan: &Plan, refusal: Refusal, at: usize, count: usize, held: &[u32]) -> Reading
+pub fn refuse(plan: &Plan, number: u32, at: usize, count: usize, held: &[u32]) -> Reading
     requires { (SlotsHold (plan_count plan.now) (length held.now) held.now count)
         × (at < 65536) }
-    ensures { result ≡ told (number_of refusal) at (stage_of (stack held.now count))
+    ensures { result ≡ told number at (stage_of (stack held.now count))
         (expected (plan_of plan.now) (nodes_of (stack held.now count))) }
 {
     Reading {
-        number: u32::from(refusal),
+        number,
         place: at as u32,
         records: 0,
         label: stage_of(held, count),
@@ -398,7 +405,7 @@ pub fn close(plan: &Plan, at: usize, standing: Standing, held: &[u32], tree: &mu
 {
     match finish(plan, standing, held, tree) {
         Ok(finished) => plain(DONE, at as u32, finished.written as u32),
-        Err(refused) => refuse(plan, refused.refusal, at, standing.count, held),
+        Err(refused) => refuse(plan, u32::from(refused.refusal), at, standing.count, held),
     }
 }
 
@@ -454,9 +461,15 @@ fn events(plan: &Plan, run: &[u8], held: &mut [u32], tree: &mut [u16]) -> Readin
         Refusal::Deep | Refusal::Runaway => plain(u32::from(stop.refusal), stop.at as u32, 0),
         Refusal::Zero => {
             let again = pass_events(plan, &run[..stop.at], held, &mut tree[..0]).unwrap();
-            refuse(plan, stop.refusal, stop.at, again.count, held)
+            refuse(plan, u32::from(stop.refusal), stop.at, again.count, held)
         }
-        _ => refuse(plan, stop.refusal, stop.at, stop.standing.count, held),
+        _ => refuse(
+            plan,
+            u32::from(stop.refusal),
+            stop.at,
+            stop.standing.count,
+            held,
+        ),
     }
 }
 

@@ -11,7 +11,7 @@ ghost use Rattle.resolving.specs.Writing.{resolved_word, resolved};
 
 use book::Node;
 use outline::{RawNode, Row};
-use spelling::{is_blank, is_letter, past};
+use spelling::{is_blank, is_letter, look, past};
 
 // The letters at a place.
 pub fn word_at(text: &[u8], place: usize) -> &[u8]
@@ -21,11 +21,18 @@ pub fn word_at(text: &[u8], place: usize) -> &[u8]
     &text[from..past(text, from, is_letter)]
 }
 
-// Whether a word is the one at a place.
-fn is_word_at(word: &[u8], text: &[u8], place: usize) -> bool
+// Whether a word is the one at a place. No more of the text is read than as many bytes as the word has, and one.
+pub fn is_word_at(word: &[u8], text: &[u8], place: usize) -> bool
     ensures { result ≡ same word.now (word_at text.now place) }
 {
-    word == word_at(text, place)
+    let from = place.min(text.len());
+    if !text[from..].starts_with(word) {
+        return false;
+    }
+    if is_letter(look(text, from + word.len())) {
+        return false;
+    }
+    word_at(word, 0).len() == word.len()
 }
 
 // The place past the blanks.
@@ -74,14 +81,14 @@ pub fn find_again(text: &[u8]) -> Option<usize>
 }
 
 // The number of the rule that a word names, if it names one.
-fn find_rule(text: &[u8], rows: &[Row], word: &[u8]) -> Option<usize>
+pub fn find_rule(text: &[u8], rows: &[Row], word: &[u8]) -> Option<usize>
     ensures { Found word.now (names_at text.now rows.now) result }
 {
     rows.iter().position(|row| is_word_at(word, text, row.name))
 }
 
 // The number of the kind that a word is, if it is one.
-fn find_kind(text: &[u8], kinds: &[usize], word: &[u8]) -> Option<usize>
+pub fn find_kind(text: &[u8], kinds: &[usize], word: &[u8]) -> Option<usize>
     ensures { Found word.now (kinds_at text.now kinds.now) result }
 {
     kinds.iter().position(|kind| is_word_at(word, text, *kind))
@@ -100,7 +107,8 @@ fn collect_word(
     many: usize,
 ) -> Option<usize>
     requires { (64 ≤ length kinds.old) × (many ≤ 64) }
-    ensures { MatchOption result
+    ensures long { length kinds.new ≡ length kinds.old }
+    ensures told { MatchOption result
         (TooMany (kinds_after (names_at text.now rows.now)
         (kinds_at text.now (take many kinds.old)) (word_of_node text.now raw.node raw.place)))
         (λ more. Collected text.now
@@ -129,7 +137,8 @@ fn collect_word(
 // many.
 pub fn collect(text: &[u8], nodes: &[RawNode], rows: &[Row], kinds: &mut [usize]) -> Option<usize>
     requires { 64 ≤ length kinds.old }
-    ensures { MatchOption result
+    ensures long { length kinds.new ≡ length kinds.old }
+    ensures told { MatchOption result
         (TooMany (kinds_after (names_at text.now rows.now) [] (words_of_nodes text.now nodes.now)))
         (λ many. Collected text.now
         (kinds_after (names_at text.now rows.now) [] (words_of_nodes text.now nodes.now))

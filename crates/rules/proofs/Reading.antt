@@ -1,10 +1,11 @@
--- What is known of a node that was read from a book.
+-- What is known of a node that was read from good nodes, or from a book.
 use Prim.Native.Nat.{ℕ, ◌<◌}
 use mathlib.Core.Path.{◌≡◌}
 use mathlib.Core.List.{List}
 use native.Mathlib.Omega.{arith}
 use Rattle.book.specs.Book.{WellFormed, Proper, fail_is, empty_is, token_is, either_is, then_is, tagged_is, ref_is}
 use Rattle.book.specs.Form.{DONE, form_of, book_of}
+use Rattle.book.specs.Nodes.{Placed, node_in, AreGood}
 use Rattle.book.proofs.Decoded.{formed, well_formed}
 use Rattle.book.specs.declared.Node.{Node}
 use Rattle.rules.specs.Step.{left_from, right_from, kind_of}
@@ -45,6 +46,27 @@ kind_below some (either_is l r) = some
 kind_below some (then_is l r) = some
 kind_below some (tagged_is l t) = some
 kind_below some (ref_is l) = some
+
+-- what is known of a node that was read from good nodes
+module _ {at : Placed} (good : AreGood at) {n : ℕ} (below : n < at.count) {own : Node} (read : own ≡ node_in at n) where
+  pub proper_read : Proper 64 at.count n own
+  proper_read = rw read (good.proper n below)
+
+  pub read_left : left_from n own < at.count
+  read_left = left_below below proper_read
+
+  pub read_right : right_from n own < at.count
+  read_right = right_below below proper_read
+
+  -- the same with 0 for none
+  pub read_left_or_zero : left_from 0 own < at.count
+  read_left_or_zero = left-within below (omega arith) proper_read
+
+  pub read_right_or_zero : right_from 0 own < at.count
+  read_right_or_zero = right_within below (omega arith) proper_read
+
+  pub read_kind : kind_of own < 64
+  read_kind = kind_below (omega arith) proper_read
 
 -- what is known of a node that was read from a book
 module _ (bytes : List ℕ) (good : (form_of bytes).number ≡ DONE) {n : ℕ} (below : n < (book_of bytes).count) {at : Node} (read : at ≡ (book_of bytes).node n) where

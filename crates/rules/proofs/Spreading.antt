@@ -8,9 +8,8 @@ use native.Mathlib.Omega.{arith}
 use lib.ListN.{length}
 use Rattle.kinds.specs.Kinds.{Has, only_kind}
 use Rattle.kinds.proofs.Laws.{has?_is, has_single}
-use Rattle.book.specs.Book.{Book, WellFormed, Proper}
-use Rattle.book.specs.Form.{DONE, form_of, book_of}
-use Rattle.book.proofs.Decoded.{formed, well_formed}
+use Rattle.book.specs.Book.{Proper}
+use Rattle.book.specs.Nodes.{Placed, node_in, AreGood}
 use Rattle.book.specs.declared.Node.{Node}
 use Rattle.book.specs.declared.Node.TheVariants.{Fail, Empty, Token, Either, Then, Tagged, Ref}
 use Rattle.grammar.specs.Rules.{Child, either_left, either_right, then_left, then_right, tagged_left, ref_left, Reach, r_start, r_child}
@@ -19,7 +18,7 @@ use Rattle.rules.specs.Growth.{masks, Sound, Blank, Joined, Grown, Turned}
 use Rattle.rules.specs.Step.{left_from, right_from, ReachAt, ChildClosed, Spread, SpreadAll}
 use Rattle.rules.proofs.Growing.{or_false, grown_then, grown_sound, blank_sound, joined-grown, joined_has, joined_held}
 use Rattle.rules.proofs.Growing.{Settling, settling_more}
-use Rattle.rules.proofs.Reading.{left-inside, right_inside}
+use Rattle.rules.proofs.Reading.{read_left, read_right}
 use Rattle.rules.proofs.Bounds.{child_side, reach_within}
 
 -- ---- marks
@@ -51,16 +50,16 @@ module _ {before after : List ℕ} {n : ℕ} {changed : Bool} (inside : n / 64 <
   mark_held unchanged = record { mark = joined_held inside joined unchanged (n % 64) ((has_single (n % 64) (n % 64)).1 refl) }
 
 -- blank marks with the start marked are sound, and have the start
-module _ {before after : List ℕ} {start : ℕ} {changed : Bool} (blank : Blank marks_size before) (few : start < 512)
-    (joined : Joined before after (start / 64) (only_kind (start % 64)) changed) where
-  start_in : start / 64 < length before
+module _ {before after : List ℕ} {start n : ℕ} {changed : Bool} (blank : Blank marks_size before) (few : start < 512)
+    (joined : Joined before after (n / 64) (only_kind (n % 64)) changed) (same : n ≡ start) where
+  start_in : n / 64 < length before
   start_in = omega (arith, blank.long)
 
   pub start_sound : {node : ℕ → Node} → Sound masks (ReachAt node start) after
-  start_sound = grown_sound (mark_grown start_in joined r_start) (blank_sound blank)
+  start_sound = grown_sound (mark_grown start_in joined (rw same r_start)) (blank_sound blank)
 
   pub start_marked : IsMarked after start
-  start_marked = mark_set start_in joined
+  start_marked = rw same at (mark_set start_in joined)
 
 marked_reach : {node : ℕ → Node} {start : ℕ} {marks : List ℕ} {n : ℕ} → Sound masks (ReachAt node start) marks → IsMarked marks n → Reach node start n
 marked_reach {node} {start} {marks} {n} sound marked =
@@ -93,30 +92,27 @@ module _ {node : ℕ → Node} {start n : ℕ} (reach : Reach node start n) wher
   reach_right (Ref l) is = reach
 
 -- a marked node that was read, whose left and right have been marked
-module _ (bytes : List ℕ) {n l r : ℕ} {at : Node} {before between after : List ℕ} {c d : Bool} (good : (form_of bytes).number ≡ DONE)
-    (below : n < (book_of bytes).count) (read : at ≡ (book_of bytes).node n) (room : marks_size ≤ length before)
+module _ {nodes : Placed} {n l r : ℕ} {at : Node} {before between after : List ℕ} {c d : Bool} (good : AreGood nodes)
+    (below : n < nodes.count) (read : at ≡ node_in nodes n) (room : marks_size ≤ length before)
     (here : IsMarked before n) (l-is : l ≡ left_from n at) (left : Joined before between (l / 64) (only_kind (l % 64)) c)
     (r-is : r ≡ right_from n at) (right : Joined between after (r / 64) (only_kind (r % 64)) d) where
-  is : (book_of bytes).node n ≡ at
+  is : node_in nodes n ≡ at
   is = sym read
 
-  few : (book_of bytes).count ≤ 512
-  few = (well_formed (formed bytes good)).few_nodes
-
   l_in : l / 64 < length before
-  l_in = omega (arith, left-inside bytes good below read, few)
+  l_in = omega (arith, read_left {at = nodes} good below read, good.few_nodes)
 
-  module _ (start : ℕ) (sound : Sound masks (ReachAt (book_of bytes).node start) before) where
-    first : Grown masks (ReachAt (book_of bytes).node start) before between c
+  module _ (start : ℕ) (sound : Sound masks (ReachAt (node_in nodes) start) before) where
+    first : Grown masks (ReachAt (node_in nodes) start) before between c
     first = mark_grown l_in left (rw l-is (reach_left (marked_reach sound here) at is))
 
     r_in : r / 64 < length between
-    r_in = omega (arith, right_inside bytes good below read, few, first.long)
+    r_in = omega (arith, read_right {at = nodes} good below read, good.few_nodes, first.long)
 
-    second : Grown masks (ReachAt (book_of bytes).node start) between after d
+    second : Grown masks (ReachAt (node_in nodes) start) between after d
     second = mark_grown r_in right (rw r-is (reach_right (marked_reach sound here) at is))
 
-    closed : (c || d) ≡ false → (m : ℕ) → Child ((book_of bytes).node n) m → IsMarked before m
+    closed : (c || d) ≡ false → (m : ℕ) → Child (node_in nodes n) m → IsMarked before m
     closed unchanged m child =
         let (e, f) = or_false c d unchanged in
         ⊎_elim
@@ -124,7 +120,7 @@ module _ (bytes : List ℕ) {n l r : ℕ} {at : Node} {before between after : Li
         (λ same. subst (IsMarked before) (r-is ∙ same) (rw (first.still e) at (mark_held r_in right f)))
         (child_side n (rw is at child))
 
-  pub children_spread : Spread (book_of bytes).node n before after (c || d)
+  pub children_spread : Spread (node_in nodes) n before after (c || d)
   children_spread = record {
     from = λ start sound. record {
       grown = grown_then (first start sound) (second start sound);
@@ -163,11 +159,11 @@ module _ {node : ℕ → Node} {kinds start count : ℕ} (proper : (n : ℕ) →
       marked r_start = started
       marked (r_child {n = n} {m = m} reach child) = (turned.closed unchanged n (reach_within proper start_below reach)).children m child (marked reach)
 
--- so it is once the start was marked and turns have been made, the last of which changed nothing
-pub spread_end : {book : Book} {first before after : List ℕ} {changed : Bool} → WellFormed book → IsMarked first book.start
-    → Settling masks (ReachAt book.node book.start) first before → SpreadAll book.node book.count before after changed → changed ≡ false
-    → Reached book.node book.start book.count after × (false ≡ true → AllMarked after book.count)
-spread_end wf started settling spread still = (
-  turned_reached wf.proper wf.start_below settling.sound (record { mark = settling.keeps _ _ started.mark }) (spread.from _ settling.sound) still,
-  λ is. absurd (false≢true is),
-)
+  -- so it is once the start was marked and turns have been made, the last of which changed nothing
+  pub spread_end : {first before after : List ℕ} {changed : Bool} → IsMarked first start
+      → Settling masks (ReachAt node start) first before → SpreadAll node count before after changed → changed ≡ false
+      → Reached node start count after × (false ≡ true → AllMarked after count)
+  spread_end started settling spread still = (
+    turned_reached settling.sound (record { mark = settling.keeps _ _ started.mark }) (spread.from _ settling.sound) still,
+    λ is. absurd (false≢true is),
+  )

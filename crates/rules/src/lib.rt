@@ -4,13 +4,14 @@
 ghost use Rattle.std.specs.Prelude.{◌≡◌, true, ◌+◌, ◌-◌, ◌*◌, ◌/◌, ◌%◌, ◌≤◌, ◌<◌, length, get_or};
 ghost use Rattle.kinds.specs.Kinds.{has?, only_kind, joined};
 ghost use Rattle.book.specs.Form.{DONE, form_of, book_of};
+ghost use Rattle.book.specs.Nodes.{node_in};
 ghost use Rattle.rules.specs.Facts.{flat, facts_at, table_size, marks_size, Facts, marked?, IsMarked, AllMarked, Reached};
 ghost use Rattle.rules.specs.Growth.{masks, Sound, Narrow, Blank, Joined};
 ghost use Rattle.rules.specs.Order.{Order};
 ghost use Rattle.rules.specs.Step.{left_from, right_from, kind_of, joined_facts, either_facts, then_facts, ruled_of};
 ghost use Rattle.rules.specs.Step.{FactAt, Given, NarrowFacts, PutAt, Climbed, SpreadAll, RefsTurned};
 
-use book::{Book, Node};
+use book::{Book, Node, Nodes};
 
 // How many nodes the tables are for: a small one, and the other.
 pub const SMALL_TABLE: usize = 64;
@@ -57,6 +58,14 @@ pub fn right_from(own: usize, node: Node) -> usize
         Node::Either(_, r) | Node::Then(_, r) => r,
         _ => own,
     }
+}
+
+// The facts that stand in a table for a node.
+pub fn facts_at(table: &[NodeFacts], n: usize) -> NodeFacts
+    requires { n < length table.now }
+    ensures { result ≡ facts_at (flat table.now) n }
+{
+    table[n]
 }
 
 // A set joined with more.
@@ -223,17 +232,18 @@ fn mark(marks: &mut [u64], n: usize) -> bool
 }
 
 // Marks the children of every marked node, in an order, by the node of each step. Whether any mark is new.
-fn spread_all<F: Fn(usize, usize) -> usize>(book: &Book, order: F, marks: &mut [u64]) -> bool
-    requires order { Order (F.pre order) (F.post order) (book_of book.now).count }
+fn spread_all<F: Fn(usize, usize) -> usize>(nodes: &Nodes, order: F, marks: &mut [u64]) -> bool
+    requires order { Order (F.pre order) (F.post order) nodes.now.count }
     requires marks_size_in_bounds { marks_size ≤ length marks.old }
-    ensures { SpreadAll (book_of book.now).node (book_of book.now).count marks.old marks.new result }
+    ensures { SpreadAll (node_in nodes.now) nodes.now.count marks.old marks.new result }
 {
     let mut changed = false;
-    let count = book.count();
+    let count = nodes.count();
+    let own = nodes.own();
     for step in 0..count {
         let n = order(count, step);
         if is_marked(marks, n) {
-            let node = book.node(n);
+            let node = own.node(n);
             let left = mark(marks, left_from(n, node));
             let right = mark(marks, right_from(n, node));
             changed |= left | right;
@@ -251,21 +261,22 @@ fn all_marked(count: usize, marks: &[u64]) -> bool
     (0..count).all(|n| is_marked(marks, n))
 }
 
-// Marks the reachable nodes, in marks that are blank: turns, downward and upward by turns, until all nodes are marked or
-// a turn changes nothing. Downward comes first, since all but refs have lower children. Whether all nodes are marked by
-// then; where a turn changed nothing it says no.
-pub fn reach(book: &Book, marks: &mut [u64]) -> bool
-    requires { Blank marks_size marks.old }
-    ensures { Reached (book_of book.now).node (book_of book.now).start (book_of book.now).count marks.new
-        × (result ≡ true → AllMarked marks.new (book_of book.now).count) }
+// Marks the nodes reachable from a start, in marks that are blank: turns, downward and upward by turns, until all nodes
+// are marked or a turn changes nothing. Downward comes first, since all but refs have lower children. Whether all nodes
+// are marked by then; where a turn changed nothing it says no.
+pub fn reach(nodes: &Nodes, start: usize, marks: &mut [u64]) -> bool
+    requires start { start < nodes.now.count }
+    requires blank { Blank marks_size marks.old }
+    ensures { Reached (node_in nodes.now) start nodes.now.count marks.new
+        × (result ≡ true → AllMarked marks.new nodes.now.count) }
 {
-    let count = book.count();
-    mark(marks, book.start());
-    while spread_all(book, downward, marks) {
+    let count = nodes.count();
+    mark(marks, start);
+    while spread_all(nodes, downward, marks) {
         if all_marked(count, marks) {
             return true;
         }
-        if !spread_all(book, upward, marks) {
+        if !spread_all(nodes, upward, marks) {
             return false;
         }
         if all_marked(count, marks) {

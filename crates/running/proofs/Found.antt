@@ -6,12 +6,11 @@ use Rattle.lengths.specs.Least.{length_at}
 use Rattle.lengths.specs.Falling.{smaller}
 use Rattle.lengths.proofs.Cutting.{cut_lower}
 use Rattle.lengths.proofs.Deciding.{LeastLengths, least_lengths}
-use Rattle.lengths.proofs.Kinded.{wf_kinded}
 use Rattle.running.specs.Cells.{Marks, Marked}
 
 module _ (book : Book) (wf : WellFormed book) where
   unfoldable pub lengths_found : LeastLengths book.node
-  lengths_found = least_lengths book.node (wf_kinded book wf) book.count wf.beyond
+  lengths_found = least_lengths book.node book.count wf.beyond
 
   unfoldable pub marks : Marks
   marks =

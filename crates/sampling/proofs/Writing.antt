@@ -21,6 +21,7 @@ use Rattle.lengths.specs.Falling.{smaller}
 use Rattle.lengths.proofs.Cutting.{smaller-left, smaller_one}
 use Rattle.weights.specs.Weight.{CAP, weight_at, Weights}
 use Rattle.weights.specs.Falling.{joined, weight_by}
+use Rattle.lengths.proofs.Kinded.{wf_kinded}
 use Rattle.weights.proofs.Weighing.{Kinded, joined_light, joined_heavy}
 use Rattle.weights.proofs.Lowering.{weight_none_lighter, weight_by_sides}
 use Rattle.sampling.specs.Sample.{Best, Sample}
@@ -243,11 +244,7 @@ pub record Due (b : Book) (by : ℕ → ℕ) : Type 0 where
 
 -- a well-formed book has kinds below 64
 pub book_kinded : (b : Book) → WellFormed b → Kinded b.node
-book_kinded b wf n = at (dec_lt n b.count)
-  where
-    at : Dec (n < b.count) → kind_of (b.node n) < 64
-    at (yes inside) = omega (arith, kind_below wf.some_kind (wf.proper n inside), wf.few_kinds)
-    at (no past) = rw (wf.beyond n (omega arith)) (omega arith)
+book_kinded b wf = wf_kinded b wf
 
 module _ (b : Book) (passes : Passes b) (weights : List ℕ) (are : Weights b.node weights) where
   pub sample_due : weight_at weights b.start < CAP → Due b (weight_at weights)

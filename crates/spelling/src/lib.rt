@@ -5,6 +5,13 @@ ghost use Rattle.std.specs.Prelude.{◌≡◌, ◌≤◌, ◌<◌, eqb, length};
 ghost use Rattle.sheets.specs.Text.{letter, blank, same, empty_word};
 ghost use Rattle.spelling.specs.Places.{begins_factor, ends_expression, byte_at, letters_at, PastRow, SkippedTo, LettersTo};
 
+// The byte at a place of a text; 0 at its end.
+pub fn look(s: &[u8], at: usize) -> u8
+    ensures { result ≡ byte_at s.now at }
+{
+    s.get(at).copied().unwrap_or(0)
+}
+
 // Whether a byte other than 0 stands at a place of a text.
 pub fn stands(s: &[u8], at: usize, byte: u8) -> bool
     requires { 0 < byte }

@@ -36,10 +36,9 @@ impl<'a> Named<'a> {
         requires { NamedBook bytes.now }
         ensures { result ≡ bytes.now }
     {
-        let Ok(book) = Book::read(bytes) else {
-            unreachable!()
-        };
-        Named { book }
+        Named {
+            book: Book::of(bytes),
+        }
     }
 
     // How many kinds it has.

@@ -15,7 +15,7 @@ use std::marker::Model;
 use trees::Due;
 
 // How many parts due are kept in slots.
-const SLOTS: usize = 64;
+pub const SLOTS: usize = 64;
 
 // Where the reading of a tree stands: what is due; how many of the parts due behind it are kept in slots, and how many
 // are not; how many events have come.
@@ -28,7 +28,7 @@ pub struct Spot {
 }
 
 // A reading of a tree: where it stands, and the slots.
-#[derive(Drop)]
+#[derive(Clone, Copy)]
 pub struct Turns {
     spot: Spot,
     slots: [u16; SLOTS],
@@ -43,6 +43,8 @@ impl Model for Turns {
     ghost view = { λ turns. left turns.spot turns.slots };
 
     ghost invariant = { λ turns. turns.spot.kept ≤ 64 };
+
+    ghost inverse = { λ l. record { spot = l.spot; slots = l.slots } };
 }
 
 // Writes an event, where the run has room for it.
@@ -70,6 +72,14 @@ impl Turns {
             },
             slots: [0; SLOTS],
         }
+    }
+
+    // A reading that stands at a spot, with its slots.
+    pub fn at(spot: Spot, slots: [u16; SLOTS]) -> Turns
+        requires { spot.kept ≤ 64 }
+        ensures { result ≡ left spot slots }
+    {
+        Turns { spot, slots }
     }
 
     // A part is whole: what is due then, behind the records read. A call of its own would cost a sixth of a reading's time.
@@ -101,6 +111,20 @@ impl Turns {
         }
         self.slots[self.spot.kept] = r as u16;
         self.spot.kept += 1;
+    }
+
+    // Where the reading stands.
+    pub fn spot(&self) -> Spot
+        ensures { result ≡ self.now.spot }
+    {
+        self.spot
+    }
+
+    // The slots.
+    pub fn slots(&self) -> [u16; SLOTS]
+        ensures { result ≡ self.now.slots }
+    {
+        self.slots
     }
 
     // What is due.

@@ -21,26 +21,20 @@ use Rattle.trees.specs.declared.Due.{Due}
 use Rattle.trees.specs.declared.Due.TheVariants.{Nothing, Part, Taking, OneOf, Both}
 use Rattle.trees.specs.Trees.{Tree, Wrong, wrong_at, more_due, events}
 use Rattle.trees.specs.Machine.{Powers, PowersOf, State, state, allows, goes, reads, read_tree}
+use Rattle.due.specs.Due.{is_nothing}
 use Rattle.trees.proofs.ReadTrees.{tree_is_read, read_on}
 use Rattle.trees.proofs.Places.{wrong_parts, due_lacks, nothing_due_tree}
 
 -- ---- whether nothing is due, and what the nodes can do, is decided
 
-abbrev is_nothing : Due → Bool
-is_nothing Nothing = true
-is_nothing (Part n) = false
-is_nothing (Taking n) = false
-is_nothing (OneOf l r) = false
-is_nothing (Both l r) = false
-
-nothing_is : (due : Due) → is_nothing due ≡ true → due ≡ Nothing
+pub nothing_is : (due : Due) → is_nothing due ≡ true → due ≡ Nothing
 nothing_is Nothing e = refl
 nothing_is (Part n) e = never e
 nothing_is (Taking n) e = never e
 nothing_is (OneOf l r) e = never e
 nothing_is (Both l r) e = never e
 
-something : (due : Due) → due ≡ Nothing → is_nothing due ≡ false → ⊥
+pub something : (due : Due) → due ≡ Nothing → is_nothing due ≡ false → ⊥
 something due none e = never (sym e ∙ ap is_nothing none)
 
 yes_or_no : {A : Type 0} → Dec A → A ⊎ (A → ⊥)

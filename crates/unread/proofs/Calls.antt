@@ -2,22 +2,24 @@
 use Prim.Native.Nat.{ℕ, ◌+◌, ◌≤◌, ◌<◌, ◌^◌}
 use native.Mathlib.Omega.{arith}
 use mathlib.Core.Path.{◌≡◌, refl, sym, ◌∙◌}
-use mathlib.Core.Bool.{Bool, true, false}
+use mathlib.Core.Bool.{Bool, true, false, cond}
 use mathlib.Core.List.{List}
 use lib.ListN.{length, get_or}
+use Rattle.std.specs.Prelude.{Ok, Err}
+use Rattle.std.specs.Result.{MatchResult}
 use Rattle.book.specs.Form.{DONE, book_of}
 use Rattle.grammar.specs.Passing.{Passes}
 use Rattle.verdict.specs.Judges.{judgement}
 use Rattle.verdict.specs.Conflicts.{Leaves}
 use Rattle.verdict.proofs.Passing.{passed}
-use Rattle.trees.specs.declared.Due.TheVariants.{Nothing}
 use Rattle.trees.specs.Trees.{Wrong}
 use Rattle.trees.specs.Machine.{PowersOf, allows}
-use Rattle.due.specs.Due.{powers_in, Able, able, powers_of, DueBelow, Looked}
+use Rattle.due.specs.Due.{powers_in, Able, able, powers_of, is_nothing, DueBelow, Looked}
 use Rattle.due.proofs.Able.{powers_are}
 use Rattle.turns.specs.declared.Spot.{Spot}
 use Rattle.turns.specs.Slots.{came, turn_of}
 use Rattle.unread.specs.Unreads.{Read}
+use Rattle.unread.proofs.Answered.{nothing_is, something}
 use Rattle.unread.proofs.UnderWay.{UnderWay, on, parts_small, events_small, due_below, looked_below, stopped, ended, lacking}
 
 abbrev pub Way : List ℕ → List ℕ → List ℕ → List ℕ → ℕ → Spot → List ℕ → List ℕ → Type 0
@@ -32,11 +34,16 @@ module _ {bytes table : List ℕ} (left : Leaves bytes (judgement DONE 0 0 0) ta
   powers = powers_are (book_of bytes) passes.well_formed table (left.known refl).facts (left.known refl).narrow
 
   -- the end of the records
-  pub at_whole : length records ≤ at → spot.due ≡ Nothing → Read (book_of bytes) records before spot.events after
-  at_whole past none = ended passes powers way past none
-
-  pub at_lack : length records ≤ at → (spot.due ≡ Nothing → ⊥) → Wrong (book_of bytes) records (length records)
-  at_lack past some = lacking passes powers way past some
+  pub comes_to : length records ≤ at
+      → MatchResult (cond (is_nothing spot.due) (Ok spot.events) (Err (length records)))
+      (λ many. Read (book_of bytes) records before many after) (λ place. Wrong (book_of bytes) records place)
+  comes_to past = go (is_nothing spot.due) refl
+    where
+      go : (t : Bool) → is_nothing spot.due ≡ t
+          → MatchResult (cond t (Ok spot.events) (Err (length records)))
+          (λ many. Read (book_of bytes) records before many after) (λ place. Wrong (book_of bytes) records place)
+      go true e = ended passes powers way past (nothing_is spot.due e)
+      go false e = lacking passes powers way past (λ none. something spot.due none e)
 
   -- whether a record may stand is asked
   module _ {count : ℕ} {able-is : Able} (by : able-is ≡ able count table) (count_is : count ≡ (book_of bytes).count) where

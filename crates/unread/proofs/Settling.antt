@@ -87,14 +87,14 @@ mapped b records before after (Err place) answer told is =
     let p = err_from_is_err_and answer is in rw (p.1, p.2) (place, refl, told)
 
 -- and so of a book that passes, with a clear run
-module _ (bytes : List ℕ) {records before after : List ℕ} {result : Result ℕ ℕ} {answer : Result ℕ UnreadError} (clear : before ≡ zeros (length before))
-    (comes : Comes (book_of bytes) records before result after)
+module _ (bytes : List ℕ) (room : ℕ) {records before after : List ℕ} {result : Result ℕ ℕ} {answer : Result ℕ UnreadError}
+    (clear : before ≡ zeros room) (comes : Comes (book_of bytes) records before result after)
     (is : MatchResult result (λ many. answer ≡ Ok many) (λ place. IsErrAnd answer (λ x. x ≡ NoTree place))) where
-  pub tree_read : {many : ℕ} → answer ≡ Ok many → Read (book_of bytes) records (zeros (length before)) many after
+  pub tree_read : {many : ℕ} → answer ≡ Ok many → Read (book_of bytes) records (zeros room) many after
   tree_read {many} was =
       let read : Read (book_of bytes) records before many after = rw was at (mapped _ _ _ _ result answer comes.told is) in
       subst (λ xs. Read (book_of bytes) records xs many after) clear read
 
   pub not_tree : Judges bytes (judgement DONE 0 0 0) → {error : UnreadError} → answer ≡ Err error
-      → Unreads bytes records (length before) (refused_by error (length before))
+      → Unreads bytes records room (refused_by error room)
   not_tree judges was = by_place _ judges (rw was at (mapped _ _ _ _ result answer comes.told is))

@@ -1,20 +1,20 @@
 // From a tree to its run: numbers 23 to 25, after those of judging.
 #![tactic(auto)]
 
-ghost use Rattle.std.specs.Prelude.{◌≡◌, ◌≤◌, length, MatchResult};
-ghost use Rattle.words.specs.Words.{zeros};
+ghost use Rattle.std.specs.Prelude.{◌≡◌, ◌≤◌, cond, length, Ok, Err, MatchResult};
 ghost use Rattle.book.specs.Form.{DONE, form_of, book_of};
 ghost use Rattle.rules.specs.Facts.{flat, table_size};
 ghost use Rattle.rules.specs.Growth.{Blank};
 ghost use Rattle.written.specs.Written.{written, out, Hands};
 ghost use Rattle.verdict.specs.Judges.{judgement};
 ghost use Rattle.verdict.specs.Conflicts.{Leaves};
+ghost use Rattle.due.specs.Due.{is_nothing};
 ghost use Rattle.unread.specs.declared.UnreadError.TheVariants.{Judged};
 ghost use Rattle.unread.specs.Unreads.{Comes, Unreads};
 ghost use Rattle.unread.specs.Errors.{refused_by};
 
 use book::{Book, DONE};
-use due::Powers;
+use due::{Powers, is_nothing};
 use rules::{NodeFacts, SMALL_TABLE, TABLE};
 use trees::Due;
 use turns::Turns;
@@ -45,6 +45,17 @@ impl From<Refusal> for UnreadError {
     }
 }
 
+// What a tree comes to whose records are at their end, which is the place: its events, where nothing more is due.
+fn at_end(due: Due, events: usize, place: usize) -> Result<usize, usize>
+    ensures { result ≡ cond (is_nothing due) (Ok events) (Err place) }
+{
+    if is_nothing(due) {
+        Ok(events)
+    } else {
+        Err(place)
+    }
+}
+
 // Reads a tree of a book that passes, and writes its events where there is room for them: how many they are, or the place
 // where the records go wrong or end too soon.
 fn read_tree(book: &Book, table: &[NodeFacts], tree: &[u16], run: &mut [u8]) -> Result<usize, usize>
@@ -59,27 +70,24 @@ fn read_tree(book: &Book, table: &[NodeFacts], tree: &[u16], run: &mut [u8]) -> 
         }
         turns.turn(book, tree, at, run);
     }
-    match turns.due() {
-        Due::Nothing => Ok(turns.events()),
-        _ => Err(tree.len()),
-    }
+    at_end(turns.due(), turns.events(), tree.len())
 }
 
-// Writes the run of a tree into a clear buffer, with a table for the book's facts, blank and long enough where its form is
-// good: how many events it has, or what stands against it.
+// Writes the run of a tree into a buffer, which it clears once the book has passed, with a table for the book's facts,
+// blank and long enough where its form is good: how many events it has, or what stands against it.
 fn write_run(
     book: &[u8],
     table: &mut [NodeFacts],
     tree: &[u16],
     run: &mut [u8],
 ) -> Result<u32, UnreadError>
-    requires blank { (form_of book.now).number ≡ DONE → Blank (table_size (book_of book.now).count) (flat table.old) }
-    requires clear { run.old ≡ zeros (length run.old) }
+    requires { (form_of book.now).number ≡ DONE → Blank (table_size (book_of book.now).count) (flat table.old) }
     ensures { MatchResult result
         (λ events. Unreads book.now tree.now (length run.old) (out (written DONE events 0) run.new))
         (λ error. Unreads book.now tree.now (length run.old) (refused_by error (length run.old))) }
 {
     let passed = verdict::judge(book, table)?;
+    run.fill(0);
     let events = read_tree(&passed, table, tree, run).map_err(UnreadError::NoTree)?;
     if MOST_EVENTS < events {
         return Err(UnreadError::RunLong);
@@ -112,7 +120,6 @@ fn unread_by<const NODES: usize>(book: &[u8], tree: &[u16], run: &mut [u8]) -> W
     ensures { Unreads book.now tree.now (length run.old)
         (out result run.new) }
 {
-    run.fill(0);
     let mut table = [NodeFacts::NONE; NODES];
     match write_run(book, &mut table, tree, run) {
         Ok(size) => Written {

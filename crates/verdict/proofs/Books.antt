@@ -3,11 +3,10 @@ use Prim.Native.Nat.{ℕ, ◌≤◌, ◌<◌}
 use native.Mathlib.Omega.{arith}
 use mathlib.Core.Path.{◌≡◌, ap}
 use mathlib.Core.List.{List}
-use Rattle.book.specs.declared.Node.{Node}
-use Rattle.book.specs.Book.{WellFormed, Proper, fail_is, empty_is, token_is, either_is, then_is, tagged_is, ref_is}
+use Rattle.book.specs.Book.{WellFormed}
 use Rattle.book.specs.Decode.{nodes, GoodNodes}
 use Rattle.book.specs.Form.{DONE, nodes_at, form_of, book_of}
-use Rattle.book.proofs.Decoded.{Formed, formed, well_formed}
+use Rattle.book.proofs.Decoded.{Formed, formed, well_formed, formed_nodes}
 use Rattle.rules.specs.Facts.{flat, table_size}
 use Rattle.rules.specs.Growth.{Blank}
 use lib.ListN.{replicate}
@@ -18,16 +17,6 @@ use Rattle.verdict.specs.Conflicts.{GoodBook}
 pub table-blank : (bytes : List ℕ) → (form_of bytes).number ≡ DONE
     → Blank (table_size (book_of bytes).count) (flat (replicate 512 nothing_known))
 table-blank bytes good = flat_fresh 512 (well_formed (formed bytes good)).few_nodes
-
--- nodes that are proper for fewer kinds are proper for more
-proper_wider : {kinds more count own : ℕ} {x : Node} → kinds ≤ more → Proper kinds count own x → Proper more count own x
-proper_wider le fail_is = fail_is
-proper_wider le empty_is = empty_is
-proper_wider le (token_is {k} below) = token_is {k = k} (omega arith)
-proper_wider le (either_is a b) = either_is a b
-proper_wider le (then_is a b) = then_is a b
-proper_wider le (tagged_is a b) = tagged_is a b
-proper_wider le (ref_is a) = ref_is a
 
 module _ {bytes : List ℕ} {count : ℕ} (good : GoodBook bytes count) where
   form : Formed bytes
@@ -45,14 +34,7 @@ module _ {bytes : List ℕ} {count : ℕ} (good : GoodBook bytes count) where
   -- its nodes, as they are read, are good
   pub nodes_good : GoodNodes bytes (nodes_at bytes) count 64
   unfolding book_of
-  nodes_good =
-      rw good.count_is
-      (record {
-        within = form.good.within;
-        few_nodes = form.good.few_nodes;
-        few_kinds = omega arith;
-        proper = λ n below. proper_wider form.few_kinds (form.good.proper n below);
-      })
+  nodes_good = rw good.count_is (formed_nodes bytes good.form)
 
   -- and are the book's
   pub look_up : nodes bytes (nodes_at bytes) count ≡ (book_of bytes).node

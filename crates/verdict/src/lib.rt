@@ -166,7 +166,7 @@ fn check_reached(book: &Book) -> Result<(), Refusal>
     ensures { MatchResult result (λ _. AllReached (book_of book.now)) (λ refusal. Judges book.now (verdict_by refusal)) }
 {
     let mut marks = [0u64; rules::MARKS];
-    if rules::reach(book, &mut marks) {
+    if rules::reach(&book.nodes(), book.start(), &mut marks) {
         return Ok(());
     }
     for n in 0..book.count() {

@@ -50,7 +50,9 @@ pub weight_laws : MeasureLaws CAP token joined weight_of
 weight_laws = record {
   empty_is = refl;
   token_is = λ k. omega arith;
-  joined_is = weight_append;
+  fits = λ k. ltb k 64;
+  kinds_fit = λ k below. lt-ltb k 64 below;
+  joined_is = λ xs ys fits. weight_append xs ys (ltb-true (head_of ys) 64 fits);
   grows = joined_grows;
   below = joined_below;
 }

@@ -56,5 +56,5 @@ pub fn least_weights(book: &Book, weights: &mut [u32])
     requires { Fresh (book_of book.now).count weights.old }
     ensures { Weights (book_of book.now).node weights.new }
 {
-    least::<Weight>(book, weights);
+    least::<Weight>(&book.nodes(), weights);
 }

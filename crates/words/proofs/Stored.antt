@@ -1,12 +1,12 @@
 -- Storing into a list, element by element: runs of stores one after the other, into zeros, stored 16-bit numbers, and copied parts.
 use mathlib.Core.Path.{◌≡◌, refl, sym, ap, ◌∙◌}
 use mathlib.Core.List.{List, [], ◌∷◌, ◌++◌}
-use Prim.Native.Nat.{ℕ, zero, suc, ◌+◌, ◌-◌, ◌≤◌}
+use Prim.Native.Nat.{ℕ, zero, suc, ◌+◌, ◌-◌, ◌≤◌, ◌<◌}
 use native.Mathlib.Nat.{add-zero, zero-add}
 use native.Mathlib.Numerals.{add-one}
 use native.Mathlib.Omega.{arith}
-use lib.ListN.{length, set, take, drop, length-drop, length-replicate}
-use lib.Seq.{sets, sets-eq, length-take-le, take-length}
+use lib.ListN.{length, get_or, set, take, drop, length-set, length-drop, length-replicate}
+use lib.Seq.{sets, sets-eq, length-take-le, take-length, take-suc, get_or-drop}
 use borrow.Rule.Slice.PartMut.{put_mid}
 use Rattle.std.proofs.lemmas.Slice.{put_mid-paste}
 use Rattle.words.specs.Lists.{part_at}
@@ -46,6 +46,40 @@ sets-zeros room xs fits =
     drop-zeros zero room = let all : room - 0 ≡ room = omega arith in rw all
     drop-zeros (suc n) zero = let none : 0 - suc n ≡ 0 = omega arith in rw none
     drop-zeros (suc n) (suc room) = let less : suc room - suc n ≡ room - n = omega arith in rw less (drop-zeros n room)
+
+-- a loop that copies a part of a list has copied so many of its elements
+pub record Copied (from : List ℕ) (at : ℕ) (before after : List ℕ) (place n : ℕ) : Type 0 where
+  pub is : after ≡ sets before place (part_at from at n)
+  pub long : length after ≡ length before
+
+module _ (from : List ℕ) (at : ℕ) where
+  pub copied_none : (l : List ℕ) (place : ℕ) → Copied from at l l place 0
+  copied_none l place = record { is = refl; long = refl }
+
+  module _ {before after : List ℕ} {place n : ℕ} (c : Copied from at before after place n) where
+    pub copied_more : at + n < length from → Copied from at before (set after (place + n) (get_or from (at + n) 0)) place (n + 1)
+    copied_more below =
+        record {
+          is =
+              ap (λ (l : List ℕ). set l (place + n) (get_or from (at + n) 0)) c.is
+              ∙ sets_one before place (part_at from at n) (place + n) (get_or from (at + n) 0)
+              (omega (arith, length-take-le n (drop at from) rest))
+              ∙ ap (sets before place) part_more;
+          long = simp length-set c.long;
+        }
+      where
+        rest : n ≤ length (drop at from)
+        rest = simp length-drop (omega arith)
+
+        more : n < length (drop at from)
+        more = simp length-drop (omega arith)
+
+        part_more : part_at from at n ++ (get_or from (at + n) 0 ∷ []) ≡ part_at from at (n + 1)
+        part_more = rw (add-one, take-suc (drop at from) n 0 more, get_or-drop at from n 0)
+
+    -- a loop that has copied as many as are asked for
+    pub copied_all : {size : ℕ} → n ≡ size → after ≡ sets before place (part_at from at size)
+    copied_all all = c.is ∙ ap (λ (m : ℕ). sets before place (part_at from at m)) all
 
 -- a part of a list that is copied over as many elements of another is a run of stores
 pub copied : (from : List ℕ) (at : ℕ) (to : List ℕ) (place size : ℕ) {part : List ℕ} → at + size ≤ length from

@@ -1,4 +1,4 @@
-// 16-bit numbers in byte slices, low byte first.
+// 16-bit numbers in byte slices, low byte first; copying parts of slices.
 #![tactic(auto)]
 
 ghost use Rattle.std.specs.Prelude.{◌≡◌, ◌+◌, ◌*◌, ◌≤◌, ◌<◌, ◌%◌, ◌/◌, length};
@@ -23,4 +23,15 @@ pub fn put_u16(bytes: &mut [u8], at: usize, value: usize)
 {
     bytes[at] = (value % 256) as u8;
     bytes[at + 1] = (value / 256 % 256) as u8;
+}
+
+// Copies so many bytes of a slice, from a place on, to a place of a lent buffer. One by one: std's `copy_from_slice` would
+// have the archive ask a C host for `memmove`.
+pub fn copy_bytes(from: &[u8], at: usize, to: &mut [u8], place: usize, size: usize)
+    requires { (at + size ≤ length from.now) × (place + size ≤ length to.old) }
+    ensures { to.new ≡ sets to.old place (part_at from.now at size) }
+{
+    for i in 0..size {
+        to[place + i] = from[at + i];
+    }
 }

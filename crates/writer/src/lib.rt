@@ -18,7 +18,7 @@ use kinds::{has, lowest, without};
 use lengths::length_at;
 use plan::{PLAN_NODES_AT, PLAN_SETTINGS_AT, one_cell};
 use rules::NodeFacts;
-use words::put_u16;
+use words::{copy_bytes, put_u16};
 
 // Writes a plan's contents.
 fn put_plan_contents(plan: &mut [u8], count: usize, kinds: usize)
@@ -35,7 +35,7 @@ fn put_part(plan: &mut [u8], bytes: &[u8], from: usize, size: usize)
     ensures copied { plan.new ≡ sets plan.old plan_settings_at (part_at bytes.now from size) }
     ensures bytes_below { Below 256 bytes.now }
 {
-    plan[PLAN_SETTINGS_AT..PLAN_SETTINGS_AT + size].copy_from_slice(&bytes[from..from + size]);
+    copy_bytes(bytes, from, plan, PLAN_SETTINGS_AT, size);
 }
 
 // Writes a book's settings and nodes.

@@ -12,5 +12,6 @@ returns c =
     let same = c.book-book.ensures.book in
     let size = rw (c.count.ensures.count, c.kinds.ensures.kinds, same) at c.plan_size-size.ensures.0 in
     let hand = c.book-book.ensures.at_hand in
-    answered_done c.requires.judges size hand.known (rw same at c.least_lengths.ensures) c.if-plan-size.false
+    let lengths = rw (c.nodes.ensures.node, c.nodes.ensures.count, same) at c.least_lengths.ensures in
+    answered_done c.requires.judges size hand.known lengths c.if-plan-size.false
     (rw (same, c.table.ensures) at c.write_plan.ensures)

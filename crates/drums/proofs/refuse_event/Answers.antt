@@ -9,7 +9,7 @@ refuse-requires c = (whole_parts c.requires, small_place c.requires)
 
 pub returns-then-tells_kinds : goal.returns-then-tells_kinds
 returns-then-tells_kinds c =
-    c.refuse.ensures ∙ refusal-told _ _ _ _ (sym c.tells_kinds.ensures ∙ c.if-tells_kinds.true)
+    rw c.from-number.ensures at c.refuse.ensures ∙ refusal-told _ _ _ _ (sym c.tells_kinds.ensures ∙ c.if-tells_kinds.true)
 
 pub returns : goal.returns
-returns c = rw c.from.ensures at c.answer.ensures ∙ refusal_silent _ _ _ _ (sym c.tells_kinds.ensures ∙ c.if-tells_kinds.false)
+returns c = rw c.from-number.ensures at c.answer.ensures ∙ refusal_silent _ _ _ _ (sym c.tells_kinds.ensures ∙ c.if-tells_kinds.false)

@@ -19,19 +19,19 @@ slice_bounds-rows-end c =
 pub returns-in_default-collect : goal.returns-in_default-collect
 returns-in_default-collect c =
     many_kinds (read_good c.in-Ok.ensures) c.in_default.ensures c.if-outline-gt-MOST.false c.requires.0 c.requires.1
-    c.in_default-collect.ensures
+    c.in_default-collect.ensures.told
 
 pub returns-then-many-eq0 : goal.returns-then-many-eq0
 returns-then-many-eq0 c =
     no_kind (read_good c.in-Ok.ensures) c.in_default.ensures c.if-outline-gt-MOST.false c.requires.0 c.requires.1 c.requires.2
-    c.in-Some-collect.ensures c.if-many-eq0.true
+    c.in-Some-collect.ensures.told c.if-many-eq0.true
 
 pub invariant_of-result : goal.invariant_of-result
 invariant_of-result c =
     settled_writes (read_good c.in-Ok.ensures) c.in_default.ensures c.if-outline-gt-MOST.false c.requires.0 c.requires.1 c.requires.2
-    c.in-Some-collect.ensures c.if-many-eq0.false
+    c.in-Some-collect.ensures.told c.if-many-eq0.false
 
 pub returns : goal.returns
 returns c =
     all_settled (read_good c.in-Ok.ensures) c.in_default.ensures c.if-outline-gt-MOST.false c.requires.0 c.requires.1 c.requires.2
-    c.in-Some-collect.ensures c.if-many-eq0.false
+    c.in-Some-collect.ensures.told c.if-many-eq0.false

@@ -4,6 +4,7 @@ use borrow.Author.Rules.{rules}
 use Prim.Native.Nat.{◌+◌, ◌*◌}
 use native.Mathlib.Omega.{arith}
 use lib.ListN.{length}
+use lib.Seq.{take-length}
 use Rattle.written.specs.Written.{out, written}
 use Rattle.written.proofs.Handing.{no_room, room_enough_lem}
 use Rattle.moves.specs.Moves.{laid_of}
@@ -26,6 +27,6 @@ pub returns : goal.returns
 returns c =
     let is = long (goal.at.returns c).After-body-body in
     let laid = book_laid c.args.book.now c.body-body.ensures.2 c.args.sizes.now c.args.names.now (length c.args.out.now) (search rules) refl
-    (omega (arith, ap length c.body-body.ensures.0)) c.if-out-size.false (omega (arith, ap length c.body-body.ensures.0)) (omega arith)
-    c.put_contents.ensures (c.copy_from_slice.ensures.after ∙ c.body-body.ensures.0) refl c.copy_from_slice-2.ensures.after in
-    room_enough_lem _ _ (omega (arith, is, c.if-out-size.false)) ∙ (λ i. out (written 0 (is i) 0) (sym laid i))
+    (omega (arith, ap length c.body-body.ensures.0)) c.if-out-size.false c.put_contents.ensures
+    (take-length c.body-body.result.now ∙ c.body-body.ensures.0) c.copy_bytes.ensures (take-length c.args.names.now) in
+    room_enough_lem _ _ (omega (arith, is, c.if-out-size.false)) ∙ (λ i. out (written 0 (is i) 0) (sym (c.copy_bytes-2.ensures ∙ laid) i))

@@ -49,7 +49,8 @@ ended c =
 
 pub returns-then-at-bytes : goal.returns-then-at-bytes
 returns-then-at-bytes c =
-    let (is, first) = ended (goal.at.returns-then-at-bytes c).After-loop-n in (sym is ∙ ne_eqb _ _ c.if-at-bytes.true, first)
+    let (is, first) = ended (goal.at.returns-then-at-bytes c).After-loop-n in
+    (sym is ∙ ne_eqb _ _ (λ same. omega (arith, same, c.if-at-bytes.true)), first)
 
 pub returns : goal.returns
-returns c = sym (ended (goal.at.returns c).After-loop-n).0 ∙ eq-eqb _ _ c.if-at-bytes.false
+returns c = sym (ended (goal.at.returns c).After-loop-n).0 ∙ eq-eqb _ _ (omega (arith, c.if-at-bytes.false, c.loop-n.invariant.1))

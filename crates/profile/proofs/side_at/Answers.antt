@@ -3,4 +3,4 @@ use mathlib.Core.Path.{refl}
 use Rattle.profile.proofs.side_at.Goals as goal
 
 pub returns : goal.returns
-returns c = rw (c.has.ensures, c.facts.ensures) refl
+returns c = rw (c.has.ensures, c.facts_at.ensures) refl

@@ -29,4 +29,4 @@ returns-in-Ok c =
 pub returns-in-Err : goal.returns-in-Err
 returns-in-Err c =
     close_refused _ _ _ _ _ _ (after (spot_of true (Err c.in-Err.refused)) c.args.held.now c.finish.new.tree) c.in-Err.ensures
-    (not_done c.in-Err.refused.refusal) c.refuse.ensures
+    (not_done c.in-Err.refused.refusal) (cc)

@@ -87,11 +87,11 @@ returns-in-Zero c =
     run_again (refused (goal.at.returns-in-Zero c).In-Err) (not_done c.in-Err.stop.refusal) c.pass_events.new.held
     (take 0 c.pass_events.new.tree) c.pass_events.auto.held
     (stopped_at (stop_of size (Ok c.unwrap-again.result)) again.new.held again.new.tree) (rw c.unwrap-again.ensures at again.ensures.0) _
-    (search rules) (rw c.in-Zero.is refl) c.refuse.ensures
+    (search rules) (rw c.in-Zero.is refl) (rw c.from-in-Zero.ensures at c.refuse.ensures)
 
 pub returns-in_default : goal.returns-in_default
 returns-in_default c =
     let r = c.in-Err.stop.refusal in
     let out = whole r c.in_default.not-Deep c.in_default.not-Zero c.in_default.not-Runaway in
     run-refused (refused (goal.at.returns-in_default c).In-Err) (not_done r) c.pass_events.new.tree c.pass_events.auto.tree out.1 out.0
-    c.refuse-in_default.ensures
+    (rw c.from-in_default.ensures at c.refuse-in_default.ensures)

@@ -5,9 +5,9 @@ use Rattle.resolving.proofs.collect.Goals as goal
 pub loop-raw-init : goal.loop-raw-init
 loop-raw-init c = collecting_none _ _ _ _
 
-pub returns-in_err-many : goal.returns-in_err-many
-returns-in_err-many c =
-    rw c.from_residual.ensures (collecting_stops _ _ _ c.loop-raw.invariant _ c.loop-raw-test.true c.in_err-many.ensures)
+pub returns-in_err-many-clause-told : goal.returns-in_err-many-clause-told
+returns-in_err-many-clause-told c =
+    rw c.from_residual.ensures (collecting_stops _ _ _ c.loop-raw.invariant _ c.loop-raw-test.true c.in_err-many.ensures.told)
 
 pub loop-raw-preserved : goal.loop-raw-preserved
-loop-raw-preserved c = collecting_more _ _ _ c.loop-raw.invariant _ c.loop-raw-test.true c.in_ok-many.ensures
+loop-raw-preserved c = collecting_more _ _ _ c.loop-raw.invariant _ c.loop-raw-test.true c.in_ok-many.ensures.told

@@ -2,20 +2,19 @@ use borrow.Author.Rules.{rules}
 use mathlib.Core.Path.{ap}
 use mathlib.Core.Bool.{Bool, ◌||◌}
 use native.Mathlib.Omega.{arith}
-use Rattle.book.specs.Form.{book_of}
-use Rattle.book.proofs.Decoded.{formed, well_formed}
+use Rattle.book.specs.Nodes.{node_in}
 use Rattle.rules.proofs.Growing.{downward_order, settling_none, settling_less, grown_then}
 use Rattle.rules.proofs.Spreading.{start_sound, start_marked, spread_more, spread_end, all_reached}
 use Rattle.rules.proofs.reach.Goals as goal
 
 pub mark-requires : goal.mark-requires
-mark-requires c = omega (arith, c.start.ensures.below, c.count-count.ensures.count, c.count-count.ensures.few, c.requires.long)
+mark-requires c = omega (arith, c.requires.start, c.count-count.ensures.good.few_nodes, c.requires.blank.long)
 
 pub loop-marks-init : goal.loop-marks-init
 loop-marks-init c =
     settling_none
-    (rw c.start.ensures.start at (start_sound c.requires (omega (arith, c.start.ensures.below, c.count-count.ensures.count, c.count-count.ensures.few)) c.mark.ensures
-    {node = (book_of c.args.book.now).node}))
+    (start_sound c.requires.blank (omega (arith, c.requires.start, c.count-count.ensures.good.few_nodes)) c.mark.ensures (omega arith)
+    {node = node_in c.args.nodes.now})
 
 pub spread_all-requires-clause-order : goal.spread_all-requires-clause-order
 spread_all-requires-clause-order c = downward_order _ (λ step below. search rules) (λ step n given. search rules)
@@ -27,10 +26,9 @@ returns-then-all_marked c =
 
 pub returns-then-not-spread_all : goal.returns-then-not-spread_all
 returns-then-not-spread_all c =
-    let started =
-    rw c.start.ensures.start
-    at (start_marked c.requires (omega (arith, c.start.ensures.below, c.count-count.ensures.count, c.count-count.ensures.few)) c.mark.ensures) in
-    spread_end (well_formed (formed _ c.count-count.ensures.form)) started (spread_more c.loop-marks.invariant c.spread_all.ensures)
+    let good = c.count-count.ensures.good in
+    let started = start_marked c.requires.blank (omega (arith, c.requires.start, good.few_nodes)) c.mark.ensures (omega arith) in
+    spread_end good.proper c.requires.start started (spread_more c.loop-marks.invariant c.spread_all.ensures)
     c.spread_all-in-loop-marks.ensures
     c.if-not-spread_all.true
 
@@ -53,7 +51,6 @@ loop-marks-smaller c =
 
 pub returns : goal.returns
 returns c =
-    let started =
-    rw c.start.ensures.start
-    at (start_marked c.requires (omega (arith, c.start.ensures.below, c.count-count.ensures.count, c.count-count.ensures.few)) c.mark.ensures) in
-    spread_end (well_formed (formed _ c.count-count.ensures.form)) started c.loop-marks.invariant c.spread_all.ensures c.loop-marks-test.false
+    let good = c.count-count.ensures.good in
+    let started = start_marked c.requires.blank (omega (arith, c.requires.start, good.few_nodes)) c.mark.ensures (omega arith) in
+    spread_end good.proper c.requires.start started c.loop-marks.invariant c.spread_all.ensures c.loop-marks-test.false

@@ -1,6 +1,6 @@
 use native.Mathlib.Omega.{arith}
 use Rattle.rules.proofs.Growing.{turning_none, turning_more, turning_past, turning_end, grown_sound, given_before, order_below, order_all}
-use Rattle.rules.proofs.Reading.{left-inside, right_inside}
+use Rattle.rules.proofs.Reading.{read_left, read_right}
 use Rattle.rules.proofs.Spreading.{told_marked, children_spread, unmarked_closed}
 use Rattle.rules.proofs.spread_all.Goals.{then-is_marked, else-is_marked}
 use Rattle.rules.proofs.spread_all.Goals as goal
@@ -12,16 +12,19 @@ pub mark-left-requires : goal.mark-left-requires
 mark-left-requires g c =
     let known = c.count-count.ensures in
     let below = order_below c.requires.order known.count c.loop-step-test.true c.order-n.ensures in
-    omega (arith, c.left_from.ensures, left-inside _ known.form below c.node-node.ensures, known.count, known.few, c.loop-step.auto.marks, c.requires.marks_size_in_bounds)
+    let read = rw c.own-own.ensures at c.node-node.ensures in
+    let inside = read_left {at = c.args.nodes.now} known.good below read in
+    omega (arith, c.left_from.ensures, inside, known.count, known.few, c.loop-step.auto.marks, c.requires.marks_size_in_bounds)
 
 pub mark-right-requires : goal.mark-right-requires
 mark-right-requires g c =
     let known = c.count-count.ensures in
     let below = order_below c.requires.order known.count c.loop-step-test.true c.order-n.ensures in
+    let read = rw c.own-own.ensures at c.node-node.ensures in
     omega (
       arith,
       c.right_from.ensures,
-      right_inside _ known.form below c.node-node.ensures,
+      read_right {at = c.args.nodes.now} known.good below read,
       known.count,
       known.few,
       c.mark-left.auto.marks,
@@ -37,7 +40,9 @@ loop-step-preserved g c start sound =
     elim c.if-is_marked.branch [
       | then-is_marked w ↦
           let here = told_marked c.is_marked.ensures w.if-is_marked.true in
-          let spread = children_spread _ known.form below w.node-node.ensures (omega (arith, c.loop-step.auto.marks, c.requires.marks_size_in_bounds)) here
+          let read = rw c.own-own.ensures at w.node-node.ensures in
+          let spread = children_spread {nodes = c.args.nodes.now} known.good below read
+          (omega (arith, c.loop-step.auto.marks, c.requires.marks_size_in_bounds)) here
           w.left_from.ensures w.mark-left.ensures w.right_from.ensures w.mark-right.ensures in
           rw (w.marks-is, w.changed-is) (turning_more turning (spread.from start (grown_sound turning.grown sound)) (given_before c.order-n.ensures))
       | else-is_marked w ↦

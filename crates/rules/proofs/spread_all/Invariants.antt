@@ -1,6 +1,6 @@
 -- `rules::spread_all` meets its contract. The loop's invariant: the first steps of the turn have been made.
 use Prim.Native.Nat.{ℕ}
-use Rattle.book.specs.Form.{book_of}
+use Rattle.book.specs.Nodes.{node_in}
 use Rattle.rules.specs.Growth.{masks, Sound}
 use Rattle.rules.specs.Step.{ReachAt, ChildClosed}
 use Rattle.rules.specs.Order.{GivenBy}
@@ -9,5 +9,5 @@ use Rattle.rules.proofs.spread_all.Given as goal
 
 abbrev pub invariant-loop-step : goal.invariant-loop-step
 invariant-loop-step g l =
-    (start : ℕ) → Sound masks (ReachAt (book_of l.book).node start) l.initial.marks
-    → Turning masks (ReachAt (book_of l.book).node start) (ChildClosed (book_of l.book).node) (GivenBy (goal.F-post g l.order l.count) l.step) l.initial.marks l.marks l.changed
+    (start : ℕ) → Sound masks (ReachAt (node_in l.nodes) start) l.initial.marks
+    → Turning masks (ReachAt (node_in l.nodes) start) (ChildClosed (node_in l.nodes)) (GivenBy (goal.F-post g l.order l.count) l.step) l.initial.marks l.marks l.changed

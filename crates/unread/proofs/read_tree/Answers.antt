@@ -2,7 +2,7 @@ use native.Mathlib.Omega.{arith}
 use mathlib.Core.Path.{refl}
 use Rattle.rules.proofs.Flat.{flat_length}
 use Rattle.unread.proofs.UnderWay.{begun, written_long}
-use Rattle.unread.proofs.Calls.{at_whole, at_lack, can_ask, no_turn, can_turn, turned}
+use Rattle.unread.proofs.Calls.{comes_to, can_ask, no_turn, can_turn, turned}
 use Rattle.unread.proofs.read_tree.Goals as goal
 
 pub of-powers-requires : goal.of-powers-requires
@@ -41,19 +41,10 @@ loop-at-preserved c =
     turned c.requires c.loop-at.invariant c.of-powers.ensures c.count.ensures.count
     c.loop-at-test.true c.from.ensures (rw c.due.ensures at c.allowed.ensures) c.if-not-allowed.false c.turn.ensures
 
-pub returns-in-Nothing : goal.returns-in-Nothing
-returns-in-Nothing c = record {
+pub returns : goal.returns
+returns c = record {
   told =
-      rw c.events.ensures
-      (at_whole c.requires c.loop-at.invariant (omega (arith, c.loop-at-test.false))
-      (rw c.due-2.ensures at c.in-Nothing.is));
-  kept = written_long c.loop-at.invariant;
-}
-
-pub returns-in_default : goal.returns-in_default
-returns-in_default c = record {
-  told =
-      at_lack c.requires c.loop-at.invariant (omega (arith, c.loop-at-test.false))
-      (rw c.due-2.ensures at c.in_default.not-Nothing);
+      rw (c.at_end.ensures, c.due-2.ensures, c.events.ensures)
+      (comes_to c.requires c.loop-at.invariant (omega (arith, c.loop-at-test.false)));
   kept = written_long c.loop-at.invariant;
 }

@@ -2,5 +2,5 @@
 use Rattle.rules.proofs.Flat.{flat_fresh}
 use Rattle.unread.proofs.unread_by.Goals as goal
 
-pub write_run-requires-clause-blank : goal.write_run-requires-clause-blank
-write_run-requires-clause-blank g c = λ good. flat_fresh _ (c.requires.large good)
+pub write_run-requires : goal.write_run-requires
+write_run-requires g c = λ good. flat_fresh _ (c.requires.large good)

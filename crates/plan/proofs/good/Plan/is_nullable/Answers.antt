@@ -12,7 +12,7 @@ unfolding plan_from
 returns-clause-null c =
     let now = c.args.self.now in
     ap (λ (m : ℕ). eqb m 1)
-    (c.cell.ensures
+    (c.cell_at.ensures
     ∙ ap (cell_at now (plan_count now) (plan_kinds now) c.args.node) (c.self.invariant.kinds_is ∙ ap plan_kinds c.self.view_is))
 
 pub returns-clause-few : goal.returns-clause-few

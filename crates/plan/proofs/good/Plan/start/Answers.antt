@@ -1,28 +1,23 @@
--- `Plan::start` meets its contract: the second number of the settings.
-use mathlib.Core.Path.{◌≡◌}
+-- `Plan::start` meets its contract: the start in the settings is a node.
 use Prim.Native.Nat.{◌<◌}
 use native.Mathlib.Omega.{arith}
-use Rattle.plan.specs.Form.{plan_from, plan_start}
+use Rattle.plan.specs.Form.{plan_from}
 use Rattle.plan.proofs.Runnable.{few_nodes, settings_inside, start_node}
 use Rattle.plan.proofs.good.Plan.start.Goals as goal
-use Rattle.plan.proofs.good.Plan.start.Goals.{After-u16_at}
+use Rattle.plan.proofs.good.Plan.start.Goals.{After-plan_start}
 
-start-is : (c : After-u16_at) → c.u16_at.result ≡ plan_start c.self.inside.bytes.now
-unfolding plan_start
-start-is c = c.u16_at.ensures.0
+below : (c : After-plan_start) → c.plan_start.result < c.self.inside.nodes
+below c = rw c.plan_start.ensures.0 (start_node c.self.invariant)
 
-below : (c : After-u16_at) → c.u16_at.result < c.self.inside.nodes
-below c = rw (start-is c) (start_node c.self.invariant)
-
-pub u16_at-requires : goal.u16_at-requires
-u16_at-requires c = omega (arith, settings_inside _ c.self.invariant.good)
+pub plan_start-requires : goal.plan_start-requires
+plan_start-requires c = omega (arith, settings_inside _ c.self.invariant.good)
 
 pub returns-clause-start : goal.returns-clause-start
 unfolding plan_from
-returns-clause-start c = rw (← c.self.view_is) (start-is (goal.at.returns-clause-start c).After-u16_at)
+returns-clause-start c = rw (← c.self.view_is) c.plan_start.ensures.0
 
 pub returns-clause-below : goal.returns-clause-below
-returns-clause-below c = rw (← c.self.view_is, ← c.self.invariant.count_is) (below (goal.at.returns-clause-below c).After-u16_at)
+returns-clause-below c = rw (← c.self.view_is, ← c.self.invariant.count_is) (below (goal.at.returns-clause-below c).After-plan_start)
 
 pub returns-clause-few : goal.returns-clause-few
-returns-clause-few c = omega (arith, below (goal.at.returns-clause-few c).After-u16_at, few_nodes c.self.invariant)
+returns-clause-few c = omega (arith, below (goal.at.returns-clause-few c).After-plan_start, few_nodes c.self.invariant)

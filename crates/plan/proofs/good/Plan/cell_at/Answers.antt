@@ -1,12 +1,12 @@
--- `Plan::cell` meets its contract: a row's cells stand within the plan.
+-- `Plan::cell_at` meets its contract: a row's cells stand within the plan.
 use mathlib.Core.Path.{refl}
 use Prim.Native.Nat.{◌<◌, ◌+◌}
 use native.Mathlib.Omega.{arith}
 use lib.ListN.{length}
 use Rattle.plan.specs.Form.{plan_from, cell_at, row_at}
 use Rattle.plan.proofs.Runnable.{few_nodes, few_kinds, cell_inside}
-use Rattle.plan.proofs.good.Plan.cell.Goals as goal
-use Rattle.plan.proofs.good.Plan.cell.Goals.{After-self}
+use Rattle.plan.proofs.good.Plan.cell_at.Goals as goal
+use Rattle.plan.proofs.good.Plan.cell_at.Goals.{After-self}
 
 -- the cell's place is within the plan, a small one
 inside : (c : After-self)
