@@ -13,13 +13,13 @@ use Rattle.rules.specs.Growth.{total, Sound, Visited}
 use Rattle.rules.proofs.Growing.{grown_none, grown_sound, Turning, Below, turning_none, turning_more, turning_end}
 use Rattle.rules.proofs.Growing.{Settling, settling_none, settling_more}
 use Rattle.lengths.specs.Least.{length_at, LeastCut}
-use Rattle.lengths.specs.Measures.{MeasureLaws, length_laws}
+use Rattle.lengths.specs.Measures.{FittingLaws, length_fits}
 use Rattle.lengths.specs.Falling.{measure_at, measure_by, at_most, SomeAt, NoMore, AllCap, Leasts}
 use Rattle.lengths.proofs.Kinded.{Fitting}
 use Rattle.lengths.proofs.Lowering.{all_cap, caps_sound, kept_closed, visit_lowers, changed_less, turned_leasts}
 use Rattle.lengths.proofs.Lengths.{least_cut}
 
-module _ {cap : ℕ} {token : ℕ → ℕ} {joined : ℕ → ℕ → ℕ} {size : List ℕ → ℕ} (laws : MeasureLaws cap token joined size) (node : ℕ → Node)
+module _ {cap : ℕ} {token : ℕ → ℕ} {joined : ℕ → ℕ → ℕ} {size : List ℕ → ℕ} (laws : FittingLaws cap token joined size) (node : ℕ → Node)
     (fitting : Fitting laws.fits node) where
   -- numbers that are the least measures of all nodes
   pub record LeastTable : Type 0 where
@@ -107,11 +107,11 @@ pub record LeastLengths (node : ℕ → Node) : Type 0 where
   pub are : (n : ℕ) → LeastCut node (node n) 65536 (length_at lengths n)
 
 unfoldable pub least_lengths : (node : ℕ → Node) (count : ℕ) → ((n : ℕ) → count ≤ n → node n ≡ Fail) → LeastLengths node
-unfolding length_laws
-least_lengths node count beyond = lengths_of (least length_laws node any count beyond)
+unfolding length_fits
+least_lengths node count beyond = lengths_of (least length_fits node any count beyond)
   where
-    any : Fitting length_laws.fits node
+    any : Fitting length_fits.fits node
     any n = refl
 
-    lengths_of : LeastTable length_laws node any → LeastLengths node
+    lengths_of : LeastTable length_fits node any → LeastLengths node
     lengths_of found = record { lengths = found.table; are = least_cut found.are }

@@ -13,7 +13,7 @@ use Rattle.book.specs.Nodes.{Placed, node_in, AreGood}
 use Rattle.book.proofs.Decoded.{nodes_beyond}
 use Rattle.grammar.specs.Derivations.{Derives, d_empty, d_token, d_left, d_right, d_then, d_tagged, d_ref}
 use Rattle.rules.specs.Step.{kind_of}
-use Rattle.lengths.specs.Measures.{MeasureLaws}
+use Rattle.lengths.specs.Measures.{FittingLaws}
 use Rattle.rules.proofs.Reading.{kind_below}
 
 -- all tokens have kinds below 64
@@ -65,7 +65,7 @@ head_small kinded own d = head_of_sort (λ k. k < 64) (omega arith) kinded own d
 abbrev pub Fitting : (ℕ → Bool) → (ℕ → Node) → Type 0
 Fitting fits node = (n : ℕ) → fits (kind_of (node n)) ≡ true
 
-module _ {cap : ℕ} {token : ℕ → ℕ} {joined : ℕ → ℕ → ℕ} {size : List ℕ → ℕ} (laws : MeasureLaws cap token joined size) where
+module _ {cap : ℕ} {token : ℕ → ℕ} {joined : ℕ → ℕ → ℕ} {size : List ℕ → ℕ} (laws : FittingLaws cap token joined size) where
   pub head_fits : {node : ℕ → Node} {run : List ℕ} → Fitting laws.fits node → (n : ℕ) → Derives node (node n) run → laws.fits (get_or run 0 0) ≡ true
   head_fits fitting n d = head_of_sort (λ k. laws.fits k ≡ true) (laws.kinds_fit 0 (omega arith)) fitting (fitting n) d
 

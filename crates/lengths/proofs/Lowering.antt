@@ -14,7 +14,7 @@ use Rattle.book.specs.declared.Node.TheVariants.{Fail, Empty, Token, Either, The
 use Rattle.grammar.specs.Derivations.{Derives, d_empty, d_token, d_left, d_right, d_then, d_tagged, d_ref}
 use Rattle.rules.specs.Growth.{total, GoneOn, went_down, Sound, Grown, Visited}
 use Rattle.rules.proofs.Growing.{total-set, Settling}
-use Rattle.lengths.specs.Measures.{MeasureLaws}
+use Rattle.lengths.specs.Measures.{FittingLaws}
 use Rattle.lengths.specs.Falling.{measure_at, measure_by, at_most, Some, SomeAt, NoMore, AllCap, Fresh, AllLowered, Leasts}
 use Rattle.lengths.proofs.Cutting.{smaller-left, smaller_right, smaller_one}
 use Rattle.lengths.proofs.Kinded.{Fitting, head_fits}
@@ -58,7 +58,7 @@ changed_less grown changed = less (grown.gone_on changed)
     less : {before after : ℕ} → GoneOn false before after → after < before
     less (went_down l) = l
 
-module _ {cap : ℕ} {token : ℕ → ℕ} {joined : ℕ → ℕ → ℕ} {size : List ℕ → ℕ} (laws : MeasureLaws cap token joined size) where
+module _ {cap : ℕ} {token : ℕ → ℕ} {joined : ℕ → ℕ → ℕ} {size : List ℕ → ℕ} (laws : FittingLaws cap token joined size) where
   -- ---- a measure has a run that measures no more
 
   module _ {node : ℕ → Node} {by : ℕ → ℕ} (fitting : Fitting laws.fits node) (some : (n : ℕ) → by n < cap → Some size node (node n) (by n)) where

@@ -7,7 +7,7 @@ use Rattle.book.specs.declared.Node.TheVariants.{Fail}
 use Rattle.lengths.proofs.Kinded.{Kinded, kinded_fitting}
 use Rattle.lengths.proofs.Deciding.{LeastTable, least}
 use Rattle.weights.specs.Weight.{Weights}
-use Rattle.weights.specs.Laws.{weight_laws}
+use Rattle.weights.specs.Laws.{weight_fits}
 use Rattle.weights.proofs.Lowering.{weights_are}
 
 -- numbers that are the least weights of all nodes
@@ -17,7 +17,7 @@ pub record LeastWeights (node : ℕ → Node) : Type 0 where
 
 -- the least weights of nodes of which none stands from a count on
 unfoldable pub least_weights : (node : ℕ → Node) → Kinded node → (count : ℕ) → ((n : ℕ) → count ≤ n → node n ≡ Fail) → LeastWeights node
-least_weights node kinded count beyond = weights_of (least weight_laws node (kinded_fitting weight_laws node kinded) count beyond)
+least_weights node kinded count beyond = weights_of (least weight_fits node (kinded_fitting weight_fits node kinded) count beyond)
   where
-    weights_of : LeastTable weight_laws node (kinded_fitting weight_laws node kinded) → LeastWeights node
+    weights_of : LeastTable weight_fits node (kinded_fitting weight_fits node kinded) → LeastWeights node
     weights_of found = record { weights = found.table; are = weights_are found.are }

@@ -12,7 +12,7 @@ use Rattle.lengths.proofs.Kinded.{Kinded, kinded_fitting}
 use Rattle.lengths.proofs.Lowering.{all_cap, all_cap_less, has_run, given_none_less}
 use Rattle.weights.specs.Weight.{weight_of, CAP, weight_at, NoneLighter, Lightest, LightestCut, below_cap, at_cap, Weights}
 use Rattle.weights.specs.Falling.{token, joined, weight_by, Fresh}
-use Rattle.weights.specs.Laws.{weight_laws}
+use Rattle.weights.specs.Laws.{weight_fits}
 
 -- ---- tables
 
@@ -75,7 +75,7 @@ module _ {node : ℕ → Node} {weights : List ℕ} (are : Weights node weights)
         at : Dec (measure_by CAP token joined (node n) (weight_at weights) < CAP)
             → weight_at weights n ≤ measure_by CAP token joined (node n) (weight_at weights)
         at (yes below) =
-            let found = has_run weight_laws (kinded_fitting weight_laws node kinded) some (node n) (measure_by CAP token joined (node n) (weight_at weights)) (omega arith) below in
+            let found = has_run weight_fits (kinded_fitting weight_fits node kinded) some (node n) (measure_by CAP token joined (node n) (weight_at weights)) (omega arith) below in
             omega (arith, weight_none_lighter n found.run found.derived, found.small)
         at (no cap) = omega (arith, capped n)
 
@@ -87,6 +87,6 @@ module _ {node : ℕ → Node} {weights : List ℕ} (are : Weights node weights)
         omega (
           arith,
           (no_more n).no_more,
-          given_none_less weight_laws (kinded_fitting weight_laws node kinded) beyond (λ m inside. no_more m) own.derived,
+          given_none_less weight_fits (kinded_fitting weight_fits node kinded) beyond (λ m inside. no_more m) own.derived,
           own.weighs,
         )

@@ -7,7 +7,7 @@ use mathlib.Core.Bool.{Bool, true, false, cond}
 use mathlib.Core.List.{List, [], ◌∷◌, ◌++◌}
 use lib.Dec.{ltb}
 use lib.ListN.{length-append}
-use Rattle.lengths.specs.Measures.{MeasureLaws}
+use Rattle.lengths.specs.Measures.{MeasureLaws, FittingLaws, fitting_laws}
 use Rattle.weights.specs.Weight.{CAP, head_of, weight_of}
 use Rattle.weights.specs.Falling.{token, joined}
 
@@ -50,9 +50,11 @@ pub weight_laws : MeasureLaws CAP token joined weight_of
 weight_laws = record {
   empty_is = refl;
   token_is = λ k. omega arith;
-  fits = λ k. ltb k 64;
-  kinds_fit = λ k below. lt-ltb k 64 below;
-  joined_is = λ xs ys fits. weight_append xs ys (ltb-true (head_of ys) 64 fits);
+  joined_is = weight_append;
   grows = joined_grows;
   below = joined_below;
 }
+
+-- the same as a measure that says which kinds it can tell: those below 64
+pub weight_fits : FittingLaws CAP token joined weight_of
+weight_fits = fitting_laws weight_laws

@@ -1,6 +1,7 @@
 use borrow.Author.Rules.{rules}
 use Rattle.rules.proofs.Growing.{downward_order, settling_none, settling_more}
 use Rattle.book.specs.Nodes.{node_in}
+use Rattle.lengths.specs.Measures.{fitting_laws}
 use Rattle.lengths.proofs.Kinded.{nodes_kinded, kinded_fitting, none_beyond}
 use Rattle.lengths.proofs.Lowering.{caps_sound, turned_leasts}
 use Rattle.lengths.proofs.least.Goals as goal
@@ -24,7 +25,8 @@ loop-table-preserved g c =
 pub returns-else-lower_all : goal.returns-else-lower_all
 returns-else-lower_all g c =
     let good = c.lower_all.ensures.good in
-    turned_leasts g.met.M.Measure.laws (kinded_fitting g.met.M.Measure.laws (node_in c.args.nodes.now) (nodes_kinded c.args.nodes.now good)) (none_beyond c.args.nodes.now) c.requires
+    let laws = fitting_laws g.met.M.Measure.laws in
+    turned_leasts laws (kinded_fitting laws (node_in c.args.nodes.now) (nodes_kinded c.args.nodes.now good)) (none_beyond c.args.nodes.now) c.requires
     (settling_more c.loop-table.invariant c.lower_all.ensures.lowered.grown)
     c.lower_all-in-loop-table.ensures.lowered
     c.if-lower_all.false
@@ -32,6 +34,7 @@ returns-else-lower_all g c =
 pub returns-after-loop-table : goal.returns-after-loop-table
 returns-after-loop-table g c =
     let good = c.lower_all.ensures.good in
-    turned_leasts g.met.M.Measure.laws (kinded_fitting g.met.M.Measure.laws (node_in c.args.nodes.now) (nodes_kinded c.args.nodes.now good)) (none_beyond c.args.nodes.now) c.requires c.loop-table.invariant
+    let laws = fitting_laws g.met.M.Measure.laws in
+    turned_leasts laws (kinded_fitting laws (node_in c.args.nodes.now) (nodes_kinded c.args.nodes.now good)) (none_beyond c.args.nodes.now) c.requires c.loop-table.invariant
     c.lower_all.ensures.lowered
     c.loop-table-test.false

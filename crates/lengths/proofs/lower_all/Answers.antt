@@ -5,6 +5,7 @@ use lib.ListN.{length}
 use Rattle.rules.proofs.Growing.{turning_more, turning_past, grown_sound, turning_end, or_true, given_before, order_below, order_all}
 use Rattle.rules.proofs.Reading.{read_left_or_zero, read_right_or_zero, read_kind}
 use Rattle.book.specs.Nodes.{node_in}
+use Rattle.lengths.specs.Measures.{fitting_laws}
 use Rattle.lengths.specs.Falling.{measure_at}
 use Rattle.lengths.proofs.Kinded.{nodes_kinded, kinded_fitting}
 use Rattle.lengths.proofs.Lowering.{get_d_within, kept_closed, visit_lowers}
@@ -27,7 +28,7 @@ measure_by-new-requires g c =
 pub loop-step-preserved : goal.loop-step-preserved
 loop-step-preserved g c =
     let known = c.count-count.ensures in
-    let laws = g.met.M.Measure.laws in
+    let laws = fitting_laws g.met.M.Measure.laws in
     let turning = c.loop-step.invariant in
     let read = rw c.own-own.ensures at c.node.ensures in
     let inside : c.order-n.result < length c.loop-step.table =
